@@ -15,7 +15,7 @@ use Rattle.plan_checker.specs.Certificate.{IsCertificate}
 use Rattle.plan_checker.proofs.SumsBelow.{below_or_last}
 use Rattle.plan_checker.proofs.Duality.{certificate_is_cheapest}
 use Rattle.plan_keeper.specs.Free.{IsFree, IsMarkedFree}
-use Rattle.plan_keeper.specs.Taken.{flow, Planned, IsSameAt, IsUncharged}
+use Rattle.plan_keeper.specs.Taken.{flow, PlannedGraph, IsSameAt, IsUncharged}
 use Rattle.plan_keeper.specs.Parts.{IsPart, IsReadAt, IsInPart}
 use Rattle.plan_keeper.specs.Apart.{AreApart, kept_alone, alone, price, charge, no_passes, AreMarkedApart, AreChargesApart}
 use Rattle.plan_keeper.proofs.Flows.{none_passed}
@@ -180,7 +180,7 @@ least_alone job good = record {
   };
 }
 
-planned_alone : (graph : List Vertex) (i : ℕ) → IsGraph graph → i < length graph → Planned
+planned_alone : (graph : List Vertex) (i : ℕ) → IsGraph graph → i < length graph → PlannedGraph
 planned_alone graph i good hi =
     let alone_good = graph_alone graph i good hi in
     record {

@@ -11,19 +11,19 @@ use Rattle.plan_checker.specs.Plan.{mark, cost_of, IsAllowed}
 use Rattle.plan_checker.specs.Charges.{passes, received, IsCounted, IsFair}
 use Rattle.plan_checker.proofs.Duality.{is_kept, kept, income, outlay, passed_by_weight}
 use Rattle.plan_keeper.specs.Free.{IsFree}
-use Rattle.plan_keeper.specs.Taken.{flow, Planned, IsSameAt, AreTaken}
+use Rattle.plan_keeper.specs.Taken.{flow, PlannedGraph, IsSameAt, AreTaken}
 use Rattle.plan_keeper.proofs.Reindexed.{reindexed}
 use Rattle.plan_keeper.proofs.Flows.{by_weight, all_passed}
 use Rattle.plan_keeper.proofs.Even.{cost_same}
 
-pub received_same : (graph : List Vertex) (marks : List Mark) (charges : Charges) (old : Planned) (place : ℕ → ℕ) → AreTaken graph marks charges old place → (a : ℕ) → a < length old.graph → place a < length graph → received graph charges (place a) ≡ received old.graph old.charges a
+pub received_same : (graph : List Vertex) (marks : List Mark) (charges : Charges) (old : PlannedGraph) (place : ℕ → ℕ) → AreTaken graph marks charges old place → (a : ℕ) → a < length old.graph → place a < length graph → received graph charges (place a) ≡ received old.graph old.charges a
 received_same graph marks charges old place taken a ha inside =
     reindexed (length graph) (length old.graph) place (λ j. flow graph charges j (place a)) (λ b. flow old.graph old.charges b a) taken.apart
     (λ b hb within. (taken.arcs b hb within).sent a ha inside)
     (λ b hb off. (taken.arcs a ha inside).got_old b hb off)
     (λ j hj none. (taken.arcs a ha inside).got_new j hj none)
 
-pub weighed_same : (graph : List Vertex) (marks : List Mark) (charges : Charges) (old : Planned) (place : ℕ → ℕ) → IsGraph graph → AreTaken graph marks charges old place → (v w : ℕ → ℕ) → ((q : ℕ) → q < length old.graph → place q < length graph → v (place q) ≡ w q) → (a : ℕ) → a < length old.graph → place a < length graph → passed_by_weight v graph charges (place a) ≡ passed_by_weight w old.graph old.charges a
+pub weighed_same : (graph : List Vertex) (marks : List Mark) (charges : Charges) (old : PlannedGraph) (place : ℕ → ℕ) → IsGraph graph → AreTaken graph marks charges old place → (v w : ℕ → ℕ) → ((q : ℕ) → q < length old.graph → place q < length graph → v (place q) ≡ w q) → (a : ℕ) → a < length old.graph → place a < length graph → passed_by_weight v graph charges (place a) ≡ passed_by_weight w old.graph old.charges a
 weighed_same graph marks charges old place good taken v w agree a ha inside =
     by_weight v graph charges (place a) good inside
     ∙ reindexed (length graph) (length old.graph) place (λ p. v p * flow graph charges (place a) p) (λ q. w q * flow old.graph old.charges a q) taken.apart
@@ -32,7 +32,7 @@ weighed_same graph marks charges old place good taken v w agree a ha inside =
     (λ p hp none. ap (λ x. v p * x) ((taken.arcs a ha inside).sent_new p hp none) ∙ mul-zero (v p))
     ∙ sym (by_weight w old.graph old.charges a old.good ha)
 
-passed_same : (graph : List Vertex) (marks : List Mark) (charges : Charges) (old : Planned) (place : ℕ → ℕ) → IsGraph graph → IsCounted graph charges → AreTaken graph marks charges old place → (a : ℕ) → a < length old.graph → place a < length graph → sum (passes charges (place a)) ≡ sum (passes old.charges a)
+passed_same : (graph : List Vertex) (marks : List Mark) (charges : Charges) (old : PlannedGraph) (place : ℕ → ℕ) → IsGraph graph → IsCounted graph charges → AreTaken graph marks charges old place → (a : ℕ) → a < length old.graph → place a < length graph → sum (passes charges (place a)) ≡ sum (passes old.charges a)
 passed_same graph marks charges old place good counted taken a ha inside =
     all_passed graph charges (place a) good counted inside
     ∙ reindexed (length graph) (length old.graph) place (λ p. flow graph charges (place a) p) (λ q. flow old.graph old.charges a q) taken.apart
@@ -41,7 +41,7 @@ passed_same graph marks charges old place good counted taken a ha inside =
     (λ p hp none. (taken.arcs a ha inside).sent_new p hp none)
     ∙ sym (all_passed old.graph old.charges a old.good old.certified.fair.counted ha)
 
-pub fair_taken : (graph : List Vertex) (marks : List Mark) (charges : Charges) (old : Planned) (place : ℕ → ℕ) → IsGraph graph → IsCounted graph charges → AreTaken graph marks charges old place → (a : ℕ) → a < length old.graph → place a < length graph → IsFair graph charges (place a)
+pub fair_taken : (graph : List Vertex) (marks : List Mark) (charges : Charges) (old : PlannedGraph) (place : ℕ → ℕ) → IsGraph graph → IsCounted graph charges → AreTaken graph marks charges old place → (a : ℕ) → a < length old.graph → place a < length graph → IsFair graph charges (place a)
 fair_taken graph marks charges old place good counted taken a ha inside =
     let was : IsFair old.graph old.charges a = old.certified.fair.fair a ha in
     let same : IsSameAt graph marks charges (place a) old a = taken.same a ha inside in
@@ -59,10 +59,10 @@ fair_taken graph marks charges old place good counted taken a ha inside =
     }
 
 -- plans of both graphs that have the same marks where vertices are taken
-abbrev pub Agree : List Vertex → List Mark → Planned → List Mark → (ℕ → ℕ) → Type 0
+abbrev pub Agree : List Vertex → List Mark → PlannedGraph → List Mark → (ℕ → ℕ) → Type 0
 Agree graph marks old others place = (q : ℕ) → q < length old.graph → place q < length graph → mark marks (place q) ≡ mark others q
 
-pub terms_same : (graph : List Vertex) (marks : List Mark) (charges : Charges) (old : Planned) (place : ℕ → ℕ) → IsGraph graph → AreTaken graph marks charges old place → (plan others : List Mark) → Agree graph plan old others place → (a : ℕ) → a < length old.graph → place a < length graph → (income graph plan charges (place a) ≡ income old.graph others old.charges a) × (outlay graph plan charges (place a) ≡ outlay old.graph others old.charges a)
+pub terms_same : (graph : List Vertex) (marks : List Mark) (charges : Charges) (old : PlannedGraph) (place : ℕ → ℕ) → IsGraph graph → AreTaken graph marks charges old place → (plan others : List Mark) → Agree graph plan old others place → (a : ℕ) → a < length old.graph → place a < length graph → (income graph plan charges (place a) ≡ income old.graph others old.charges a) × (outlay graph plan charges (place a) ≡ outlay old.graph others old.charges a)
 terms_same graph marks charges old place good taken plan others agree a ha inside =
     let same : IsSameAt graph marks charges (place a) old a = taken.same a ha inside in
     let weights : (q : ℕ) → q < length old.graph → place q < length graph → is_kept plan (place q) ≡ is_kept others q = λ q hq within. ap kept (agree q hq within) in
@@ -77,7 +77,7 @@ terms_same graph marks charges old place good taken plan others agree a ha insid
     (omega arith, omega arith)
 
 -- a mark that is allowed there is allowed here, where free parents of computed vertices are kept
-pub allowed_here : (graph : List Vertex) (marks : List Mark) (charges : Charges) (old : Planned) (place : ℕ → ℕ) → IsGraph graph → AreTaken graph marks charges old place → (plan others : List Mark) → Agree graph plan old others place → (a : ℕ) → a < length old.graph → place a < length graph → (m : Mark) → (m ≡ Compute → (p : ℕ) → Contains (vertex graph (place a)).parents p → IsFree (vertex graph p) → mark plan p ≢ Prune) → IsAllowed others (vertex old.graph a) m → IsAllowed plan (vertex graph (place a)) m
+pub allowed_here : (graph : List Vertex) (marks : List Mark) (charges : Charges) (old : PlannedGraph) (place : ℕ → ℕ) → IsGraph graph → AreTaken graph marks charges old place → (plan others : List Mark) → Agree graph plan old others place → (a : ℕ) → a < length old.graph → place a < length graph → (m : Mark) → (m ≡ Compute → (p : ℕ) → Contains (vertex graph (place a)).parents p → IsFree (vertex graph p) → mark plan p ≢ Prune) → IsAllowed others (vertex old.graph a) m → IsAllowed plan (vertex graph (place a)) m
 allowed_here graph marks charges old place good taken plan others agree a ha inside Load frees allowed =
     let P : Option ℕ → Type 0 = λ o. IsSome o in subst P (sym (taken.same a ha inside).load) allowed
 allowed_here graph marks charges old place good taken plan others agree a ha inside Prune frees allowed = (taken.same a ha inside).needed ∙ allowed
@@ -96,7 +96,7 @@ allowed_here graph marks charges old place good taken plan others agree a ha ins
     ((taken.arcs a ha inside).parents p there)
 
 -- and the other way round
-pub allowed_there : (graph : List Vertex) (marks : List Mark) (charges : Charges) (old : Planned) (place : ℕ → ℕ) → IsGraph graph → AreTaken graph marks charges old place → (plan others : List Mark) → Agree graph plan old others place → (a : ℕ) → a < length old.graph → place a < length graph → (m : Mark) → ((q : ℕ) → Contains (vertex old.graph a).parents q → IsFree (vertex old.graph q) → mark others q ≢ Prune) → IsAllowed plan (vertex graph (place a)) m → IsAllowed others (vertex old.graph a) m
+pub allowed_there : (graph : List Vertex) (marks : List Mark) (charges : Charges) (old : PlannedGraph) (place : ℕ → ℕ) → IsGraph graph → AreTaken graph marks charges old place → (plan others : List Mark) → Agree graph plan old others place → (a : ℕ) → a < length old.graph → place a < length graph → (m : Mark) → ((q : ℕ) → Contains (vertex old.graph a).parents q → IsFree (vertex old.graph q) → mark others q ≢ Prune) → IsAllowed plan (vertex graph (place a)) m → IsAllowed others (vertex old.graph a) m
 allowed_there graph marks charges old place good taken plan others agree a ha inside Load frees allowed =
     let P : Option ℕ → Type 0 = λ o. IsSome o in subst P (taken.same a ha inside).load allowed
 allowed_there graph marks charges old place good taken plan others agree a ha inside Prune frees allowed = sym (taken.same a ha inside).needed ∙ allowed

@@ -11,7 +11,7 @@ use Rattle.plan_checker.specs.Graph.{vertex, IsGraph}
 use Rattle.plan_checker.specs.Least.{IsLeast}
 use Rattle.plan_checker.specs.Certificate.{IsCertificate}
 use Rattle.plan_keeper.specs.Free.{IsFree, IsMarkedFree}
-use Rattle.plan_keeper.specs.Taken.{flow, Planned, AreTaken, IsUncharged, IsMadeOfPlans}
+use Rattle.plan_keeper.specs.Taken.{flow, PlannedGraph, AreTaken, IsUncharged, IsMadeOfPlans}
 use Rattle.plan_keeper.specs.Parts.{IsPart, IsReadAt, IsInPart, IsMadeOfParts}
 use Rattle.plan_keeper.proofs.Reindexed.{found}
 use Rattle.plan_keeper.proofs.Flows.{no_parent, none_passed}
@@ -36,7 +36,7 @@ contains_or_not xs x =
     (found (length xs) (λ k. get_or xs k 0) x)
 
 -- a vertex that is not in the part gets nothing from it
-sent_out : (graph : List Vertex) (marks : List Mark) (charges : Charges) (numbers : List ℕ) (part : Planned) → IsPart graph numbers part.graph → IsReadAt graph marks charges numbers part → (k p : ℕ) → k < length part.graph → p < length graph → ((q : ℕ) → q < length part.graph → get_or numbers q 0 ≢ p) → flow graph charges (get_or numbers k 0) p ≡ 0
+sent_out : (graph : List Vertex) (marks : List Mark) (charges : Charges) (numbers : List ℕ) (part : PlannedGraph) → IsPart graph numbers part.graph → IsReadAt graph marks charges numbers part → (k p : ℕ) → k < length part.graph → p < length graph → ((q : ℕ) → q < length part.graph → get_or numbers q 0 ≢ p) → flow graph charges (get_or numbers k 0) p ≡ 0
 sent_out graph marks charges numbers part is_part read k p hk hp none =
     ⊎_elim
     (λ there. ⊎_elim
@@ -59,7 +59,7 @@ free_passes_nothing graph marks charges good made j p hj hp free =
     (made.each j hj)
 
 -- nor does the part get anything from a vertex that is not in it
-got_out : (graph : List Vertex) (marks : List Mark) (charges : Charges) (numbers : List ℕ) (part : Planned) → IsGraph graph → IsMadeOfParts graph marks charges → IsPart graph numbers part.graph → (k j : ℕ) → k < length part.graph → get_or numbers k 0 < length graph → j < length graph → ((q : ℕ) → q < length part.graph → get_or numbers q 0 ≢ j) → flow graph charges j (get_or numbers k 0) ≡ 0
+got_out : (graph : List Vertex) (marks : List Mark) (charges : Charges) (numbers : List ℕ) (part : PlannedGraph) → IsGraph graph → IsMadeOfParts graph marks charges → IsPart graph numbers part.graph → (k j : ℕ) → k < length part.graph → get_or numbers k 0 < length graph → j < length graph → ((q : ℕ) → q < length part.graph → get_or numbers q 0 ≢ j) → flow graph charges j (get_or numbers k 0) ≡ 0
 got_out graph marks charges numbers part good made is_part k j hk within hj none =
     let count = is_part.one_each in
     ⊎_elim
@@ -70,7 +70,7 @@ got_out graph marks charges numbers part good made is_part k j hk within hj none
     (λ gone. no_parent graph charges j (get_or numbers k 0) gone)
     (contains_or_not (vertex graph j).parents (get_or numbers k 0))
 
-taken : (graph : List Vertex) (marks : List Mark) (charges : Charges) (numbers : List ℕ) (part : Planned) → IsGraph graph → IsMadeOfParts graph marks charges → IsPart graph numbers part.graph → IsReadAt graph marks charges numbers part → AreTaken graph marks charges part (λ k. get_or numbers k 0)
+taken : (graph : List Vertex) (marks : List Mark) (charges : Charges) (numbers : List ℕ) (part : PlannedGraph) → IsGraph graph → IsMadeOfParts graph marks charges → IsPart graph numbers part.graph → IsReadAt graph marks charges numbers part → AreTaken graph marks charges part (λ k. get_or numbers k 0)
 taken graph marks charges numbers part good made is_part read =
     let count = is_part.one_each in
     let inside : (k : ℕ) → k < length part.graph → get_or numbers k 0 < length graph = λ k hk. is_part.there k 0 (omega arith) in

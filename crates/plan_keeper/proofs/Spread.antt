@@ -15,7 +15,7 @@ use Rattle.plan_checker.specs.Charges.{passes, received, IsFair}
 use Rattle.plan_checker.proofs.SumsBelow.{sum_below_same, sum_below-zero, term-le-sum_below}
 use Rattle.plan_checker.proofs.Duality.{is_kept, kept, income, passed_by_weight}
 use Rattle.plan_keeper.specs.Free.{IsFree}
-use Rattle.plan_keeper.specs.Taken.{flow, Planned, AreTaken}
+use Rattle.plan_keeper.specs.Taken.{flow, PlannedGraph, AreTaken}
 use Rattle.plan_keeper.proofs.Flows.{by_weight, none_passed}
 use Rattle.plan_keeper.proofs.Even.{IsEven, even_at, balanced_from}
 use Rattle.plan_keeper.proofs.Copied.{Agree, terms_same, allowed_there}
@@ -27,12 +27,12 @@ free_or_not (Some zero) = inl refl
 free_or_not (Some (suc x)) = inr (λ e. let same : suc x ≡ 0 = ap (λ (o : Option ℕ). unwrap_or o 0) e in absurd (omega arith))
 
 -- the mark of vertex b: that of the other plan where b is taken, else Load for nothing, else its own
-record Spreads (n : ℕ) (plan : List Mark) (old : Planned) (place : ℕ → ℕ) (b : ℕ) (m : Mark) : Type 0 where
+record Spreads (n : ℕ) (plan : List Mark) (old : PlannedGraph) (place : ℕ → ℕ) (b : ℕ) (m : Mark) : Type 0 where
   inside : place b < n → m ≡ mark plan (place b)
   free : n ≤ place b → IsFree (vertex old.graph b) → m ≡ Load
   own : n ≤ place b → (¬ IsFree (vertex old.graph b)) → m ≡ mark old.marks b
 
-spread_mark : (n : ℕ) (plan : List Mark) (old : Planned) (place : ℕ → ℕ) (b : ℕ) → (m : Mark) × Spreads n plan old place b m
+spread_mark : (n : ℕ) (plan : List Mark) (old : PlannedGraph) (place : ℕ → ℕ) (b : ℕ) → (m : Mark) × Spreads n plan old place b m
 spread_mark n plan old place b =
     ⊎_elim
     (λ within. (mark plan (place b), record { inside = λ h. refl; free = λ off f. absurd (omega arith); own = λ off f. absurd (omega arith) }))
@@ -42,17 +42,17 @@ spread_mark n plan old place b =
     (free_or_not (vertex old.graph b).load))
     (cases_lt (place b) n)
 
-abbrev Spread : ℕ → List Mark → Planned → (ℕ → ℕ) → Type 0
+abbrev Spread : ℕ → List Mark → PlannedGraph → (ℕ → ℕ) → Type 0
 Spread n plan old place = Chosen (length old.graph) (Spreads n plan old place)
 
-spread : (n : ℕ) (plan : List Mark) (old : Planned) (place : ℕ → ℕ) → Spread n plan old place
+spread : (n : ℕ) (plan : List Mark) (old : PlannedGraph) (place : ℕ → ℕ) → Spread n plan old place
 spread n plan old place = choose (length old.graph) (Spreads n plan old place) (λ b h. spread_mark n plan old place b)
 
 load_kept : (m : Mark) → m ≡ Load → m ≢ Prune
 load_kept m e gone = let P : Load ≡ Prune = sym e ∙ gone in cc
 
 -- what leaves and reaches a free vertex is nothing
-pub free_passes : (old : Planned) (b : ℕ) → b < length old.graph → IsFree (vertex old.graph b) → (get_or old.charges.through b 0 ≡ 0) × (sum (passes old.charges b) ≡ 0) × (get_or old.charges.enter b 0 ≡ 0) × (received old.graph old.charges b ≡ 0)
+pub free_passes : (old : PlannedGraph) (b : ℕ) → b < length old.graph → IsFree (vertex old.graph b) → (get_or old.charges.through b 0 ≡ 0) × (sum (passes old.charges b) ≡ 0) × (get_or old.charges.enter b 0 ≡ 0) × (received old.graph old.charges b ≡ 0)
 free_passes old b h free =
     let fair : IsFair old.graph old.charges b = old.certified.fair.fair b h in
     let le = fair.loading 0 free in
@@ -60,20 +60,20 @@ free_passes old b h free =
     let go = fair.going_out in
     (omega arith, omega arith, omega arith, omega arith)
 
-none_weighed : (old : Planned) (w : ℕ → ℕ) (b : ℕ) → b < length old.graph → IsFree (vertex old.graph b) → passed_by_weight w old.graph old.charges b ≡ 0
+none_weighed : (old : PlannedGraph) (w : ℕ → ℕ) (b : ℕ) → b < length old.graph → IsFree (vertex old.graph b) → passed_by_weight w old.graph old.charges b ≡ 0
 none_weighed old w b h free =
     by_weight w old.graph old.charges b old.good h
     ∙ sum_below_same (length old.graph) (λ p. w p * flow old.graph old.charges b p) (λ p. 0)
     (λ p hp. ap (λ x. w p * x) (none_passed old.graph old.charges b p old.good old.certified.fair.counted h (free_passes old b h free).1 hp) ∙ mul-zero (w p))
     ∙ sum_below-zero (length old.graph)
 
-pub none_to_free : (old : Planned) (b q : ℕ) → b < length old.graph → q < length old.graph → IsFree (vertex old.graph q) → flow old.graph old.charges b q ≡ 0
+pub none_to_free : (old : PlannedGraph) (b q : ℕ) → b < length old.graph → q < length old.graph → IsFree (vertex old.graph q) → flow old.graph old.charges b q ≡ 0
 none_to_free old b q hb hq free =
     let all : sum_below (length old.graph) (λ j. flow old.graph old.charges j q) ≡ 0 = (free_passes old q hq free).3 in
     let one = term-le-sum_below (length old.graph) (λ j. flow old.graph old.charges j q) b hb in
     omega arith
 
-valid_spread : (graph : List Vertex) (marks : List Mark) (charges : Charges) (old : Planned) (place : ℕ → ℕ) → IsGraph graph → AreTaken graph marks charges old place → (plan : List Mark) → IsValid graph plan → (all : Spread (length graph) plan old place) → IsValid old.graph all.marks
+valid_spread : (graph : List Vertex) (marks : List Mark) (charges : Charges) (old : PlannedGraph) (place : ℕ → ℕ) → IsGraph graph → AreTaken graph marks charges old place → (plan : List Mark) → IsValid graph plan → (all : Spread (length graph) plan old place) → IsValid old.graph all.marks
 valid_spread graph marks charges old place good taken plan valid all = record {
   one_each = all.count;
   allowed = λ b hb.
@@ -107,7 +107,7 @@ valid_spread graph marks charges old place good taken plan valid all = record {
       (cases_lt (place b) n);
 }
   where
-    own_allowed : (graph : List Vertex) (marks : List Mark) (charges : Charges) (old : Planned) (place : ℕ → ℕ) → AreTaken graph marks charges old place → (plan : List Mark) → (all : Spread (length graph) plan old place) → (b : ℕ) → b < length old.graph → length graph ≤ place b → (¬ IsFree (vertex old.graph b)) → (m : Mark) → ((q : ℕ) → q < length old.graph → IsFree (vertex old.graph q) → mark all.marks q ≢ Prune) → IsAllowed old.marks (vertex old.graph b) m → IsAllowed all.marks (vertex old.graph b) m
+    own_allowed : (graph : List Vertex) (marks : List Mark) (charges : Charges) (old : PlannedGraph) (place : ℕ → ℕ) → AreTaken graph marks charges old place → (plan : List Mark) → (all : Spread (length graph) plan old place) → (b : ℕ) → b < length old.graph → length graph ≤ place b → (¬ IsFree (vertex old.graph b)) → (m : Mark) → ((q : ℕ) → q < length old.graph → IsFree (vertex old.graph q) → mark all.marks q ≢ Prune) → IsAllowed old.marks (vertex old.graph b) m → IsAllowed all.marks (vertex old.graph b) m
     own_allowed graph marks charges old place taken plan all b hb off costly Load free_kept allowed = allowed
     own_allowed graph marks charges old place taken plan all b hb off costly Prune free_kept allowed = allowed
     own_allowed graph marks charges old place taken plan all b hb off costly Compute free_kept allowed =
@@ -122,7 +122,7 @@ valid_spread graph marks charges old place good taken plan valid all = record {
         (free_or_not (vertex old.graph q).load)
 
 -- a plan under which the charges are even there is even here
-even_spread : (graph : List Vertex) (marks : List Mark) (charges : Charges) (old : Planned) (place : ℕ → ℕ) → IsGraph graph → AreTaken graph marks charges old place → (plan : List Mark) → ((i : ℕ) → i < length graph → IsEven graph plan charges i) → (all : Spread (length graph) plan old place) → (b : ℕ) → b < length old.graph → IsEven old.graph all.marks old.charges b
+even_spread : (graph : List Vertex) (marks : List Mark) (charges : Charges) (old : PlannedGraph) (place : ℕ → ℕ) → IsGraph graph → AreTaken graph marks charges old place → (plan : List Mark) → ((i : ℕ) → i < length graph → IsEven graph plan charges i) → (all : Spread (length graph) plan old place) → (b : ℕ) → b < length old.graph → IsEven old.graph all.marks old.charges b
 even_spread graph marks charges old place good taken plan even all b hb =
     let agree : Agree graph plan old all.marks place = λ q hq within. sym ((all.each q hq).inside within) in
     ⊎_elim
@@ -169,7 +169,7 @@ even_spread graph marks charges old place good taken plan even all b hb =
         (cases_lt (place q) (length graph))
 
 -- what the taken plan does, any valid plan does under which the charges are even
-pub does_no_more : (graph : List Vertex) (marks : List Mark) (charges : Charges) (old : Planned) (place : ℕ → ℕ) → IsGraph graph → AreTaken graph marks charges old place → (plan : List Mark) → IsValid graph plan → ((i : ℕ) → i < length graph → IsEven graph plan charges i) → (a : ℕ) → a < length old.graph → place a < length graph → (mark marks (place a) ≡ Compute → mark plan (place a) ≡ Compute) × (mark marks (place a) ≢ Prune → mark plan (place a) ≢ Prune)
+pub does_no_more : (graph : List Vertex) (marks : List Mark) (charges : Charges) (old : PlannedGraph) (place : ℕ → ℕ) → IsGraph graph → AreTaken graph marks charges old place → (plan : List Mark) → IsValid graph plan → ((i : ℕ) → i < length graph → IsEven graph plan charges i) → (a : ℕ) → a < length old.graph → place a < length graph → (mark marks (place a) ≡ Compute → mark plan (place a) ≡ Compute) × (mark marks (place a) ≢ Prune → mark plan (place a) ≢ Prune)
 does_no_more graph marks charges old place good taken plan valid even a ha inside =
     let all : Spread (length graph) plan old place = spread (length graph) plan old place in
     let fits = valid_spread graph marks charges old place good taken plan valid all in

@@ -15,14 +15,14 @@ use Rattle.plan_checker.specs.Charges.{received, IsFair, AreFair}
 use Rattle.plan_checker.proofs.SumsBelow.{sum_below_same, sum_below-zero}
 use Rattle.plan_checker.proofs.Duality.{is_kept, passed_by_weight, certificate_is_cheapest}
 use Rattle.plan_keeper.specs.Free.{IsFree, IsWanted, IsMarkedFree}
-use Rattle.plan_keeper.specs.Taken.{flow, Planned, AreTaken, IsTaken, IsUncharged, IsMadeOfPlans}
+use Rattle.plan_keeper.specs.Taken.{flow, PlannedGraph, AreTaken, IsTaken, IsUncharged, IsMadeOfPlans}
 use Rattle.plan_keeper.proofs.Flows.{by_weight, none_passed}
 use Rattle.plan_keeper.proofs.Even.{IsEven, even_at, balanced_from}
 use Rattle.plan_keeper.proofs.Copied.{fair_taken, terms_same, allowed_here}
 use Rattle.plan_keeper.proofs.Spread.{does_no_more}
 
 -- no taken vertex stands at a free one
-not_free : (graph : List Vertex) (marks : List Mark) (charges : Charges) (old : Planned) (place : ℕ → ℕ) → AreTaken graph marks charges old place → (z : ℕ) → z < length graph → IsFree (vertex graph z) → (q : ℕ) → q < length old.graph → place q ≢ z
+not_free : (graph : List Vertex) (marks : List Mark) (charges : Charges) (old : PlannedGraph) (place : ℕ → ℕ) → AreTaken graph marks charges old place → (z : ℕ) → z < length graph → IsFree (vertex graph z) → (q : ℕ) → q < length old.graph → place q ≢ z
 not_free graph marks charges old place taken z hz free q hq =
     λ e.
     let within : place q < length graph = omega arith in
@@ -99,7 +99,7 @@ even_free graph marks charges good made z hz free marked none =
     in
     omega arith
 
-even_taken : (graph : List Vertex) (marks : List Mark) (charges : Charges) → IsGraph graph → (old : Planned) (place : ℕ → ℕ) → AreTaken graph marks charges old place → (a : ℕ) → a < length old.graph → place a < length graph → IsEven graph marks charges (place a)
+even_taken : (graph : List Vertex) (marks : List Mark) (charges : Charges) → IsGraph graph → (old : PlannedGraph) (place : ℕ → ℕ) → AreTaken graph marks charges old place → (a : ℕ) → a < length old.graph → place a < length graph → IsEven graph marks charges (place a)
 even_taken graph marks charges good old place taken a ha within =
     let balanced = old.certified.balanced in
     let terms = terms_same graph marks charges old place good taken marks old.marks (λ q hq in_graph. (taken.same q hq in_graph).marked) a ha within in

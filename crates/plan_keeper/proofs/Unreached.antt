@@ -8,7 +8,7 @@ use Rattle.plan_checker.specs.declared.charges.Charges.{Charges}
 use Rattle.plan_checker.specs.Graph.{vertex, IsGraph}
 use Rattle.plan_checker.specs.Charges.{passes, passed_to}
 use Rattle.plan_keeper.specs.Free.{IsFree}
-use Rattle.plan_keeper.specs.Taken.{flow, Planned, IsSameAt, HasSameArcs, AreTaken, IsTaken}
+use Rattle.plan_keeper.specs.Taken.{flow, PlannedGraph, IsSameAt, HasSameArcs, AreTaken, IsTaken}
 use Rattle.plan_keeper.specs.Unreached.{IsUntouched, IsUnreached}
 use Rattle.plan_keeper.proofs.Flows.{no_parent, none_passed}
 use Rattle.plan_keeper.proofs.Spread.{none_to_free, free_passes}
@@ -35,13 +35,13 @@ kept_inside n kept i h =
 below_child : (graph : List Vertex) (i p : ℕ) → IsGraph graph → i < length graph → Contains (vertex graph i).parents p → p < i
 below_child graph i p good h there = All-contains (λ x. x < i) (vertex graph i).parents p (good i h).below there
 
-flow_same : (graph : List Vertex) (marks : List Mark) (charges : Charges) (old : Planned) (i p : ℕ) → IsUntouched graph marks charges old i → flow graph charges i p ≡ flow old.graph old.charges i p
+flow_same : (graph : List Vertex) (marks : List Mark) (charges : Charges) (old : PlannedGraph) (i p : ℕ) → IsUntouched graph marks charges old i → flow graph charges i p ≡ flow old.graph old.charges i p
 flow_same graph marks charges old i p same =
     ap (λ (v : Vertex). passed_to p v.parents (passes charges i)) same.as_it_was
     ∙ ap (λ (ws : List ℕ). passed_to p (vertex old.graph i).parents ws) same.passing
 
 -- what vertex a passes to one that is not kept
-none_sent : (graph : List Vertex) (marks : List Mark) (charges : Charges) (old : Planned) (kept : ℕ → Bool) → IsGraph graph → IsUnreached graph marks charges old kept → (a : ℕ) → a < length graph → kept a ≡ true → (p : ℕ) → (kept p ≡ true → ⊥) → flow old.graph old.charges a p ≡ 0
+none_sent : (graph : List Vertex) (marks : List Mark) (charges : Charges) (old : PlannedGraph) (kept : ℕ → Bool) → IsGraph graph → IsUnreached graph marks charges old kept → (a : ℕ) → a < length graph → kept a ≡ true → (p : ℕ) → (kept p ≡ true → ⊥) → flow old.graph old.charges a p ≡ 0
 none_sent graph marks charges old kept good safe a ha ka p gone =
     let same : IsUntouched graph marks charges old a = safe.untouched a ha ka in
     ⊎_elim
@@ -55,7 +55,7 @@ none_sent graph marks charges old kept good safe a ha ka p gone =
     (λ none. sym (flow_same graph marks charges old a p same) ∙ no_parent graph charges a p none)
     (contains_or_not (vertex graph a).parents p)
 
-none_got_old : (graph : List Vertex) (marks : List Mark) (charges : Charges) (old : Planned) (kept : ℕ → Bool) → IsUnreached graph marks charges old kept → (a : ℕ) → a < length graph → kept a ≡ true → a < length old.graph → (q : ℕ) → q < length old.graph → (kept q ≡ true → ⊥) → flow old.graph old.charges q a ≡ 0
+none_got_old : (graph : List Vertex) (marks : List Mark) (charges : Charges) (old : PlannedGraph) (kept : ℕ → Bool) → IsUnreached graph marks charges old kept → (a : ℕ) → a < length graph → kept a ≡ true → a < length old.graph → (q : ℕ) → q < length old.graph → (kept q ≡ true → ⊥) → flow old.graph old.charges q a ≡ 0
 none_got_old graph marks charges old kept safe a ha ka before q hq gone =
     ⊎_elim
     (λ there. ⊎_elim
@@ -65,7 +65,7 @@ none_got_old graph marks charges old kept safe a ha ka before q hq gone =
     (λ none. no_parent old.graph old.charges q a none)
     (contains_or_not (vertex old.graph q).parents a)
 
-none_got_new : (graph : List Vertex) (marks : List Mark) (charges : Charges) (old : Planned) (kept : ℕ → Bool) → IsGraph graph → IsUnreached graph marks charges old kept → (a : ℕ) → a < length graph → kept a ≡ true → (j : ℕ) → j < length graph → (kept j ≡ true → ⊥) → flow graph charges j a ≡ 0
+none_got_new : (graph : List Vertex) (marks : List Mark) (charges : Charges) (old : PlannedGraph) (kept : ℕ → Bool) → IsGraph graph → IsUnreached graph marks charges old kept → (a : ℕ) → a < length graph → kept a ≡ true → (j : ℕ) → j < length graph → (kept j ≡ true → ⊥) → flow graph charges j a ≡ 0
 none_got_new graph marks charges old kept good safe a ha ka j hj gone =
     ⊎_elim
     (λ there. ⊎_elim
@@ -75,7 +75,7 @@ none_got_new graph marks charges old kept good safe a ha ka j hj gone =
     (λ none. no_parent graph charges j a none)
     (contains_or_not (vertex graph j).parents a)
 
-same_arcs : (graph : List Vertex) (marks : List Mark) (charges : Charges) (old : Planned) (kept : ℕ → Bool) → IsGraph graph → IsUnreached graph marks charges old kept → (a : ℕ) → a < length graph → kept a ≡ true → HasSameArcs graph charges a old a (place_of (length graph) kept)
+same_arcs : (graph : List Vertex) (marks : List Mark) (charges : Charges) (old : PlannedGraph) (kept : ℕ → Bool) → IsGraph graph → IsUnreached graph marks charges old kept → (a : ℕ) → a < length graph → kept a ≡ true → HasSameArcs graph charges a old a (place_of (length graph) kept)
 same_arcs graph marks charges old kept good safe a ha ka =
     let n : ℕ = length graph in
     let same : IsUntouched graph marks charges old a = safe.untouched a ha ka in
@@ -112,7 +112,7 @@ same_arcs graph marks charges old kept good safe a ha ka =
           none_got_new graph marks charges old kept good safe a ha ka j hj (λ kj. let there = (safe.untouched j hj kj).before in none j there (place_kept n kept j kj));
     }
 
-same_at : (graph : List Vertex) (marks : List Mark) (charges : Charges) (old : Planned) (i : ℕ) → IsUntouched graph marks charges old i → IsSameAt graph marks charges i old i
+same_at : (graph : List Vertex) (marks : List Mark) (charges : Charges) (old : PlannedGraph) (i : ℕ) → IsUntouched graph marks charges old i → IsSameAt graph marks charges i old i
 same_at graph marks charges old i same = record {
   load = ap (λ (v : Vertex). v.load) same.as_it_was;
   compute = ap (λ (v : Vertex). v.compute) same.as_it_was;
@@ -123,7 +123,7 @@ same_at graph marks charges old i same = record {
   pay = same.pay;
 }
 
-unreached_taken : (graph : List Vertex) (marks : List Mark) (charges : Charges) (old : Planned) (kept : ℕ → Bool) → IsGraph graph → IsUnreached graph marks charges old kept → AreTaken graph marks charges old (place_of (length graph) kept)
+unreached_taken : (graph : List Vertex) (marks : List Mark) (charges : Charges) (old : PlannedGraph) (kept : ℕ → Bool) → IsGraph graph → IsUnreached graph marks charges old kept → AreTaken graph marks charges old (place_of (length graph) kept)
 unreached_taken graph marks charges old kept good safe =
     let n : ℕ = length graph in
     let grown = safe.grown in
@@ -157,7 +157,7 @@ unreached_taken graph marks charges old kept good safe =
           (either (kept q));
     }
 
-pub unreached_stays : (graph : List Vertex) (marks : List Mark) (charges : Charges) (old : Planned) (kept : ℕ → Bool) → IsGraph graph → IsUnreached graph marks charges old kept → (i : ℕ) → i < length graph → kept i ≡ true → IsTaken graph marks charges i
+pub unreached_stays : (graph : List Vertex) (marks : List Mark) (charges : Charges) (old : PlannedGraph) (kept : ℕ → Bool) → IsGraph graph → IsUnreached graph marks charges old kept → (i : ℕ) → i < length graph → kept i ≡ true → IsTaken graph marks charges i
 unreached_stays graph marks charges old kept good safe i hi ki = record {
   old = old;
   place = place_of (length graph) kept;

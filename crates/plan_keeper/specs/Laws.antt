@@ -6,10 +6,10 @@ use Rattle.plan_checker.specs.declared.charges.Charges.{Charges}
 use Rattle.plan_checker.specs.Graph.{IsGraph}
 use Rattle.plan_checker.specs.Least.{IsLeast}
 use Rattle.plan_checker.specs.Certificate.{IsCertificate}
-use Rattle.plan_keeper.specs.Taken.{Planned, IsTaken, IsMadeOfPlans}
+use Rattle.plan_keeper.specs.Taken.{PlannedGraph, IsTaken, IsMadeOfPlans}
 use Rattle.plan_keeper.specs.Parts.{IsMadeOfParts}
 use Rattle.plan_keeper.specs.Unreached.{IsUnreached}
-use Rattle.plan_keeper.specs.declared.planned.Planned as kept
+use Rattle.plan_keeper.specs.declared.planned.Planned.{Planned}
 use Rattle.plan_keeper.specs.Kept.{IsKeptApart}
 
 -- a plan that is made of the Least plans of parts is the Least plan, and their charges certify it
@@ -27,11 +27,11 @@ PlansMakeThePlan =
 -- what a change doesn't reach can be taken from the plan before it
 abbrev pub UnreachedStays : Type 0
 UnreachedStays =
-    (graph : List Vertex) (marks : List Mark) (charges : Charges) (old : Planned) (kept : ℕ → Bool) →
+    (graph : List Vertex) (marks : List Mark) (charges : Charges) (old : PlannedGraph) (kept : ℕ → Bool) →
     IsGraph graph → IsUnreached graph marks charges old kept → (i : ℕ) → i < length graph → kept i ≡ true → IsTaken graph marks charges i
 
 -- a plan that is kept of vertices that stand apart is the Least plan, and its charges certify it
 abbrev pub KeptIsPlanned : Type 0
 KeptIsPlanned =
-    (planned : kept.Planned) → IsKeptApart planned →
+    (planned : Planned) → IsKeptApart planned →
     IsLeast planned.graph planned.plan.marks × IsCertificate planned.graph planned.plan.marks planned.charges

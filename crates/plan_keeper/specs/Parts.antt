@@ -7,7 +7,7 @@ use Rattle.plan_checker.specs.declared.charges.Charges.{Charges}
 use Rattle.plan_checker.specs.Graph.{vertex}
 use Rattle.plan_checker.specs.Charges.{IsCounted}
 use Rattle.plan_keeper.specs.Free.{IsFree, IsMarkedFree}
-use Rattle.plan_keeper.specs.Taken.{flow, Planned, IsSameAt, IsUncharged}
+use Rattle.plan_keeper.specs.Taken.{flow, PlannedGraph, IsSameAt, IsUncharged}
 
 -- the part has a vertex for each of these numbers, in their order; its parents are those that aren't free; and each child
 -- is in the part, or free
@@ -21,14 +21,14 @@ pub record IsPart (graph : List Vertex) (numbers : List ℕ) (part : List Vertex
   pub children : (k : ℕ) → k < length part → (j : ℕ) → j < length graph → Contains (vertex graph j).parents (slice_index numbers k) → IsFree (vertex graph j) ⊎ Contains numbers j
 
 -- the marks and charges of the part stand at its numbers; what it passes stays in it
-pub record IsReadAt (graph : List Vertex) (marks : List Mark) (charges : Charges) (numbers : List ℕ) (part : Planned) : Type 0 where
+pub record IsReadAt (graph : List Vertex) (marks : List Mark) (charges : Charges) (numbers : List ℕ) (part : PlannedGraph) : Type 0 where
   pub same : EachIndex part.graph (λ k. IsSameAt graph marks charges (slice_index numbers k) part k)
   pub passes : (k q : ℕ) → k < length part.graph → q < length part.graph → flow graph charges (slice_index numbers k) (slice_index numbers q) ≡ flow part.graph part.charges k q
   pub none_to_free : (k p : ℕ) → k < length part.graph → p < length graph → IsFree (vertex graph p) → flow graph charges (slice_index numbers k) p ≡ 0
 
 -- vertex i is in a part, whose Least plan and charges stand at its numbers
 pub record IsInPart (graph : List Vertex) (marks : List Mark) (charges : Charges) (i : ℕ) : Type 0 where
-  pub part : Planned
+  pub part : PlannedGraph
   pub numbers : List ℕ
   pub is_part : IsPart graph numbers part.graph
   pub in_it : Contains numbers i

@@ -15,7 +15,7 @@ abbrev pub flow : List Vertex → Charges → ℕ → ℕ → ℕ
 flow graph charges i p = passed_to p (vertex graph i).parents (passes charges i)
 
 -- a graph, its Least plan, and charges that certify it
-pub record Planned : Type 0 where
+pub record PlannedGraph : Type 0 where
   pub graph : List Vertex
   pub marks : List Mark
   pub charges : Charges
@@ -24,7 +24,7 @@ pub record Planned : Type 0 where
   pub certified : IsCertificate graph marks charges
 
 -- what is at vertex a of the planned graph is at vertex i, with its mark and charges
-pub record IsSameAt (graph : List Vertex) (marks : List Mark) (charges : Charges) (i : ℕ) (old : Planned) (a : ℕ) : Type 0 where
+pub record IsSameAt (graph : List Vertex) (marks : List Mark) (charges : Charges) (i : ℕ) (old : PlannedGraph) (a : ℕ) : Type 0 where
   pub load : (vertex graph i).load ≡ (vertex old.graph a).load
   pub compute : (vertex graph i).compute ≡ (vertex old.graph a).compute
   pub needed : (vertex graph i).needed ≡ (vertex old.graph a).needed
@@ -35,7 +35,7 @@ pub record IsSameAt (graph : List Vertex) (marks : List Mark) (charges : Charges
 
 -- the arcs between vertex i and its parents and children are those of vertex a of the planned graph: but for free vertices,
 -- and for those without a place, of which neither gets anything from the other
-pub record HasSameArcs (graph : List Vertex) (charges : Charges) (i : ℕ) (old : Planned) (a : ℕ) (place : ℕ → ℕ) : Type 0 where
+pub record HasSameArcs (graph : List Vertex) (charges : Charges) (i : ℕ) (old : PlannedGraph) (a : ℕ) (place : ℕ → ℕ) : Type 0 where
   pub parents : (p : ℕ) → Contains (vertex graph i).parents p → IsFree (vertex graph p) ⊎ ((q : ℕ) × (q < length old.graph) × (place q ≡ p) × Contains (vertex old.graph a).parents q)
   pub parents_back : (q : ℕ) → Contains (vertex old.graph a).parents q → IsFree (vertex old.graph q) ⊎ Contains (vertex graph i).parents (place q)
   pub sent : (q : ℕ) → q < length old.graph → place q < length graph → flow graph charges i (place q) ≡ flow old.graph old.charges a q
@@ -46,7 +46,7 @@ pub record HasSameArcs (graph : List Vertex) (charges : Charges) (i : ℕ) (old 
 
 -- vertices of a planned graph stand at these places of the graph, with their marks and charges; a place past the end
 -- is that of a vertex that is left out
-pub record AreTaken (graph : List Vertex) (marks : List Mark) (charges : Charges) (old : Planned) (place : ℕ → ℕ) : Type 0 where
+pub record AreTaken (graph : List Vertex) (marks : List Mark) (charges : Charges) (old : PlannedGraph) (place : ℕ → ℕ) : Type 0 where
   pub apart : (a b : ℕ) → a < length old.graph → b < length old.graph → place a < length graph → place a ≡ place b → a ≡ b
   pub costly : (a : ℕ) → a < length old.graph → place a < length graph → ¬ IsFree (vertex old.graph a)
   pub same : (a : ℕ) → a < length old.graph → place a < length graph → IsSameAt graph marks charges (place a) old a
@@ -55,7 +55,7 @@ pub record AreTaken (graph : List Vertex) (marks : List Mark) (charges : Charges
 
 -- what is at vertex i is taken from some planned graph
 pub record IsTaken (graph : List Vertex) (marks : List Mark) (charges : Charges) (i : ℕ) : Type 0 where
-  pub old : Planned
+  pub old : PlannedGraph
   pub place : ℕ → ℕ
   pub from : ℕ
   pub there : from < length old.graph

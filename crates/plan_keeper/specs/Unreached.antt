@@ -7,10 +7,10 @@ use Rattle.plan_checker.specs.Graph.{vertex}
 use Rattle.plan_checker.specs.Plan.{mark}
 use Rattle.plan_checker.specs.Charges.{passes, IsCounted}
 use Rattle.plan_keeper.specs.Free.{IsFree}
-use Rattle.plan_keeper.specs.Taken.{Planned}
+use Rattle.plan_keeper.specs.Taken.{PlannedGraph}
 
 -- vertex i, its mark and its charges are what they were
-pub record IsUntouched (graph : List Vertex) (marks : List Mark) (charges : Charges) (old : Planned) (i : ℕ) : Type 0 where
+pub record IsUntouched (graph : List Vertex) (marks : List Mark) (charges : Charges) (old : PlannedGraph) (i : ℕ) : Type 0 where
   pub before : i < length old.graph
   pub as_it_was : vertex graph i ≡ vertex old.graph i
   pub marked : mark marks i ≡ mark old.marks i
@@ -21,7 +21,7 @@ pub record IsUntouched (graph : List Vertex) (marks : List Mark) (charges : Char
 
 -- the vertices that are kept are untouched and not free; their parents are kept, or were free and are; their children are
 -- kept, or free, in the graph as it was and as it is
-pub record IsUnreached (graph : List Vertex) (marks : List Mark) (charges : Charges) (old : Planned) (kept : ℕ → Bool) : Type 0 where
+pub record IsUnreached (graph : List Vertex) (marks : List Mark) (charges : Charges) (old : PlannedGraph) (kept : ℕ → Bool) : Type 0 where
   pub grown : length old.graph ≤ length graph
   pub counted : IsCounted graph charges
   pub uncharged : (j : ℕ) → j < length graph → IsFree (vertex graph j) → sum (passes charges j) ≡ 0
