@@ -1,12 +1,13 @@
 -- A graph that is brought up to date, one vertex after the other.
 use Rattle.std.specs.List.{zip}
-use Rattle.std.proofs.Common.{◌≡◌, ◌≢◌, ◌∙◌, ℕ, suc, ◌+◌, ◌<◌, ◌≤◌, min, Bool, List, [], ◌∷◌, ◌++◌, Option, Some, length, map, take, get_or, set, sym, refl, ap, ap₂, ⊎_elim, arith, get_or-set_other, get_or-set_same}
+use Rattle.std.proofs.Common.{◌≡◌, ◌∙◌, ℕ, suc, ◌+◌, ◌<◌, ◌≤◌, Bool, List, [], ◌∷◌, ◌++◌, Option, Some, length, map, take, get_or, set, sym, refl, ap, ap₂, ⊎_elim, arith, get_or-set_other, get_or-set_same}
 use Rattle.std.proofs.Math.Seq.{take-suc}
-use Rattle.std.proofs.lemmas.List.{get_or-map, get_or-take, get_or_default, take_all, length-map, length-set, length-take-le, same_lists}
+use Rattle.std.proofs.lemmas.Bool.{cases_lt}
+use Rattle.std.proofs.lemmas.List.{get_or-map, get_or-take, get_or_default, take_all, length-map, length-take-le, same_lists}
 use Rattle.std.proofs.lemmas.Slice.Zip.{get_or-zip, length-zip}
 use Rattle.job_graph.specs.Jobs.{Job}
 use Rattle.job_graph.specs.KnownJobs.{jobs_in, known_of}
-use Rattle.job_graph.specs.PresentJobGraph.{is_needed, needed_among, present_job_graph, vertex_of as present_vertex}
+use Rattle.job_graph.specs.PresentJobGraph.{needed_among, present_job_graph, vertex_of as present_vertex}
 use Rattle.job_graph.specs.Unfold.{Known, Resolved, known_from}
 use Rattle.job_graph.specs.Words.{Fields}
 use Rattle.job_graph.specs.declared.costs.Costs.{Costs}
@@ -15,15 +16,7 @@ use Rattle.plan_checker.specs.Graph.{no_vertex, vertex}
 use Rattle.plan_checker.specs.declared.vertex.Vertex.{Vertex}
 use Rattle.plan_checker.proofs.SumsBelow.{below_or_last}
 use Rattle.plan_keeper.specs.Kept.{freed}
-use Rattle.run_plan.specs.Again.{AreFirst, IsBrought, vertex_of, vertices_of}
-
--- a vertex that is as it should be
-pub as_it_was : (graph : List Vertex) (number : ℕ) (job : Vertex) (held parents : List ℕ) (costs : Costs) (needed : Bool) → job ≡ vertex graph number → held ≡ job.parents → held ≡ parents →
-    job ≡ vertex_of job.parents costs needed → IsBrought graph graph number (vertex_of parents costs needed)
-as_it_was graph number job held parents costs needed read has same is = record {
-  there = sym read ∙ is ∙ ap (λ (ps : List ℕ). vertex_of ps costs needed) (sym has ∙ same);
-  others = λ i other. refl;
-}
+use Rattle.run_plan.specs.inner.Again.{AreFirst, IsBrought, vertex_of, vertices_of}
 
 -- one that is free now
 pub as_freed : (old new : List Vertex) (number : ℕ) (job : Vertex) (held parents : List ℕ) (costs : Costs) (needed : Bool) → number < length old → job ≡ vertex old number → held ≡ job.parents →
@@ -54,6 +47,31 @@ brought_more old new all count n job before now is same = record {
       (λ (last : i ≡ n). ap (vertex new) last ∙ now.there ∙ is ∙ ap (vertex all) (sym last))
       (below_or_last n i (omega (arith, hi)));
 }
+
+-- those from a number on, one more of which is as it should be
+pub same_more : (graph all : List Vertex) (from n : ℕ) → ((i : ℕ) → from ≤ i → i < n → vertex graph i ≡ vertex all i) → vertex graph n ≡ vertex all n →
+    (i : ℕ) → from ≤ i → i < n + 1 → vertex graph i ≡ vertex all i
+same_more graph all from n before is i hi past =
+    ⊎_elim
+    (λ (lt : i < n). before i hi lt)
+    (λ (last : i ≡ n). ap (vertex graph) last ∙ is ∙ ap (vertex all) (sym last))
+    (below_or_last n i (omega (arith, past)))
+
+-- those below a number, and those from there on
+pub brought_on : (graph all : List Vertex) (count from n : ℕ) → AreBroughtBelow graph all count from → ((i : ℕ) → from ≤ i → i < n → vertex graph i ≡ vertex all i) →
+    AreBroughtBelow graph all count n
+brought_on graph all count from n before more = record {
+  as_many = before.as_many;
+  below = λ i hi.
+      ⊎_elim
+      (λ (lt : i < from). before.below i lt)
+      (λ (past : from ≤ i). more i past hi)
+      (cases_lt i from);
+}
+
+-- none, before one has been gone through
+pub none_brought : (graph all : List Vertex) (count : ℕ) → length graph ≡ count → AreBroughtBelow graph all count 0
+none_brought graph all count as_many = record { as_many = as_many; below = λ i below. absurd (omega (arith, below)) }
 
 -- once all have been gone through
 pub all_brought : (graph all : List Vertex) (count n : ℕ) → AreBroughtBelow graph all count n → count ≤ n → count ≤ length all → AreFirst graph all

@@ -1,3 +1,4 @@
 pub mod Costs
 pub mod Planned
-pub mod Again
+pub mod Touched
+pub mod inner

@@ -1,11 +1,11 @@
 //! The plan of the jobs that are known, by the one that was made before.
-ghost use Rattle.std.specs.Prelude.{◌≡◌, ◌≢◌, ◌≤◌, All, ◌++◌, ◌∷◌, ◌<◌, [], IfErr, IfOk, IfSome, IsTrue, None, OnOk, length, take};
+ghost use Rattle.std.specs.Prelude.{◌≡◌, ◌≢◌, ◌≤◌, ℕ, All, ◌++◌, ◌∷◌, ◌<◌, [], IfErr, IfOk, IfSome, IsTrue, None, OnOk, length};
 ghost use Rattle.job_graph.specs.PresentJobGraph.{AreWithin, needed_among, present_job_graph};
 ghost use Rattle.job_graph.specs.Unfolding.{Blames};
 ghost use Rattle.job_graph.specs.declared.fault.UnfoldError.{UnfoldError};
 ghost use Rattle.plan_checker.specs.Graph.{vertex};
 ghost use Rattle.plan_keeper.specs.Kept.{IsKeptApart};
-ghost use Rattle.run_plan.specs.Again.{AreFirst, IsBrought, vertex_of, vertices_of};
+ghost use Rattle.run_plan.specs.inner.Again.{AreFirst, IsBrought, vertex_of, vertices_of};
 ghost use Rattle.run_plan.specs.Planned.{IsPlanOf};
 
 use crate::kept::KeptPlan;
@@ -110,17 +110,51 @@ fn bring_old(
     if count > known.len() {
         return false;
     }
-    for number in 0..count {
+    let mut number = first_changed(made.graph.vertices(), known, costs, needed, 0);
+    while number < count {
         let parents = known[number].parents.as_slice();
         if !bring_one(alloc, made, number, parents, costs[number], needed[number]) {
             return false;
         }
+        number = first_changed(made.graph.vertices(), known, costs, needed, number + 1);
     }
     true
 }
 
-/// Brings a vertex up to date. Returns whether it is: one that has changed must be free now.
-fn bring_one(
+/// The first vertex, from this number on, that isn't as it should be; else how many vertices there are.
+fn first_changed(
+    vertices: &[Vertex],
+    known: &[KnownJob<'_>],
+    costs: &[Costs],
+    needed: &[bool],
+    from: usize,
+) -> usize
+    requires vertices { length vertices.now ≤ length known.now }
+    requires costs { length costs.now ≡ length known.now }
+    requires needed { length needed.now ≡ length known.now }
+    requires from { from ≤ length vertices.now }
+    ensures within { (from ≤ result) × (result ≤ length vertices.now) }
+    ensures same { (i : ℕ) → from ≤ i → i < result → vertex vertices.now i
+        ≡ vertex (vertices_of known.now costs.now needed.now) i }
+{
+    for number in from..vertices.len() {
+        let parents = known[number].parents.as_slice();
+        if !is_as(&vertices[number], parents, costs[number], needed[number]) {
+            return number;
+        }
+    }
+    vertices.len()
+}
+
+/// Whether a vertex has these parents and costs, and is needed or not as this says.
+fn is_as(vertex: &Vertex, parents: &[usize], costs: Costs, needed: bool) -> bool
+    ensures { IsTrue result → vertex.now ≡ vertex_of parents.now costs needed }
+{
+    has(vertex, costs, needed) && are_same(vertex.parents.as_slice(), parents)
+}
+
+/// Brings a vertex up to date that has changed. Returns whether it is: it must be free now, and have the same parents.
+pub(crate) fn bring_one(
     alloc: Global,
     made: &mut Planned,
     number: usize,
@@ -137,17 +171,21 @@ fn bring_one(
     ensures count { length made.new.graph ≡ length made.old.graph }
 {
     let vertex = &made.graph.vertices()[number];
-    if vertex.parents.as_slice() != parents {
-        return false;
-    }
-    if has(vertex, costs, needed) {
-        return true;
-    }
-    if costs.load != Some(0) {
+    if costs.load != Some(0) || !are_same(vertex.parents.as_slice(), parents) {
         return false;
     }
     free_vertex(alloc, made, number, costs.compute, needed);
     true
+}
+
+/// Whether these are the same numbers. Most jobs have no parents, and need no comparison.
+pub(crate) fn are_same(some: &[usize], others: &[usize]) -> bool
+    ensures { IsTrue result → some.now ≡ others.now }
+{
+    if some.is_empty() {
+        return others.is_empty();
+    }
+    some == others
 }
 
 /// Whether a vertex has these costs, and is needed or not as this says.
@@ -202,7 +240,11 @@ fn new_vertex(
 }
 
 /// Adds a vertex; none where it doesn't stand apart.
-fn added(alloc: Global, made: Planned, vertex: Vertex) -> Result<Option<Planned>, AllocError>
+pub(crate) fn added(
+    alloc: Global,
+    made: Planned,
+    vertex: Vertex,
+) -> Result<Option<Planned>, AllocError>
     requires { IsKeptApart made }
     ensures { IfOk result (λ found. IfSome found (λ more. IsKeptApart more
         × (more.graph ≡ made.graph ++ vertex ∷ []))) }

@@ -1,8 +1,8 @@
 //! What it costs to have the outputs of a job, as a run knows it.
-ghost use Rattle.std.specs.Prelude.{◌≡◌, ◌≤◌, option_copied};
+ghost use Rattle.std.specs.Prelude.{◌≡◌, ◌≤◌, Bool, IsTrue, None, option_copied};
 ghost use Rattle.std.specs.Option.{ForSome};
 ghost use Rattle.job_graph.specs.PresentJobGraph.{AreWithin};
-ghost use Rattle.run_plan.specs.Costs.{cost_to_compute, cost_to_load, costs_of, load_cost_of};
+ghost use Rattle.run_plan.specs.Costs.{LoadRates, cost_to_compute, cost_to_load, costs_of, load_cost_of};
 
 use job_graph::{Costs, load_cost};
 use job_reuse::file_bytes;
@@ -40,6 +40,23 @@ impl Rates {
         Rates { base, rate }
     }
 
+    /// The same rates.
+    pub fn copied(&self) -> Rates
+        ensures { result ≡ self.now }
+    {
+        Rates {
+            base: self.base,
+            rate: self.rate,
+        }
+    }
+
+    /// Whether these are the same rates.
+    pub fn are(&self, other: &Rates) -> bool
+        ensures { IsTrue result → self.now ≡ other.now }
+    {
+        self.base == other.base && self.rate == other.rate
+    }
+
     /// Returns what it costs to load files of so many bytes in all.
     fn cost(&self, bytes: u64) -> u64
         ensures cost { result ≡ cost_to_load self.now bytes }
@@ -70,6 +87,18 @@ pub fn costs_of(standing: Standing<'_>, rates: &Rates) -> Costs
     Costs {
         load: load_of(standing, rates),
         compute: compute_of(standing.row),
+    }
+}
+
+/// Returns the costs of a job without a row: nothing of it can be loaded but what is held. Most jobs of a first run are such.
+pub fn costs_without_row(held: bool) -> Costs
+    ensures costs { (rates : LoadRates) (archived : Bool) → result
+        ≡ costs_of rates held archived None }
+    ensures within { AreWithin result }
+{
+    Costs {
+        load: if held { Some(0) } else { None },
+        compute: UNKNOWN_COST,
     }
 }
 

@@ -1,6 +1,6 @@
 use Rattle.std.proofs.Common.{◌≡◌, take}
 use Rattle.plan_keeper.specs.Kept.{IsKeptApart}
-use Rattle.run_plan.specs.Again.{vertices_of}
+use Rattle.run_plan.specs.inner.Again.{vertices_of}
 use Rattle.run_plan.proofs.again.add_new.Given as goal
 
 abbrev pub invariant-loop-number : goal.invariant-loop-number

@@ -1,12 +1,12 @@
 use Rattle.std.specs.Prelude.{slice_index_or}
-use Rattle.std.proofs.Common.{rules, ◌≡◌, ◌∙◌, ◌<◌, ◌≤◌, ℕ, Bool, false, List, None, ap, arith, length, sym}
+use Rattle.std.proofs.Common.{rules, ◌≡◌, ◌∙◌, ◌+◌, ◌<◌, ◌≤◌, ℕ, Bool, false, List, None, ap, arith, length, subst, sym}
 use Rattle.std.proofs.lemmas.List.{get_or_default}
 use Rattle.job_graph.specs.declared.costs.Costs.{Costs}
 use Rattle.job_graph.specs.declared.growth.KnownJob.{KnownJob}
 use Rattle.plan_checker.specs.Graph.{vertex}
 use Rattle.plan_checker.specs.declared.vertex.Vertex.{Vertex}
-use Rattle.run_plan.specs.Again.{IsBrought, vertex_of, vertices_of}
-use Rattle.run_plan.proofs.Brought.{all_brought, brought_more, vertex_at, vertices_count}
+use Rattle.run_plan.specs.inner.Again.{IsBrought, vertex_of, vertices_of}
+use Rattle.run_plan.proofs.Brought.{AreBroughtBelow, all_brought, brought_more, brought_on, vertex_at, vertices_count}
 use Rattle.run_plan.proofs.again.bring_old.Goals as goal
 
 pub loop-number-preserved : goal.loop-number-preserved
@@ -25,11 +25,15 @@ loop-number-preserved c =
     ∙ vertex_at c.args.known.now c.args.costs.now c.args.needed.now c.requires.costs c.requires.needed number c.index-known-number.result its flag there c.index-known-number.is
     (get_or_default c.args.costs.now number (record { load = None; compute = 0 }) its (omega (arith, there, c.requires.costs)))
     (get_or_default c.args.needed.now number false flag (omega (arith, there, c.requires.needed))) in
+    let graph : List Vertex = c.bring_one.new.made.graph in
+    let count : ℕ = length c.vertices-count.result.now in
+    let next : AreBroughtBelow graph all count (number + 1) =
+    brought_more c.loop-number.made.graph graph all count number (vertex_of c.as_slice-parents.result.now its flag) c.loop-number.invariant.brought now is c.bring_one.ensures.count in
     record {
       kept = c.bring_one.ensures.kept;
-      brought =
-          brought_more c.loop-number.made.graph c.bring_one.new.made.graph all (length c.vertices-count.result.now) number (vertex_of c.as_slice-parents.result.now its flag)
-          c.loop-number.invariant.brought now is c.bring_one.ensures.count;
+      brought = brought_on graph all count (number + 1) c.first_changed-number-in-loop-number.result next
+          (subst (λ (vs : List Vertex). (i : ℕ) → number + 1 ≤ i → i < c.first_changed-number-in-loop-number.result → vertex vs i ≡ vertex all i) c.vertices-in-loop-number.ensures.list c.first_changed-number-in-loop-number.ensures.same);
+      within = search rules;
     }
 
 pub returns-clause-brought : goal.returns-clause-brought

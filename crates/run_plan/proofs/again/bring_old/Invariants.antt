@@ -1,5 +1,6 @@
+use Rattle.std.proofs.Common.{◌≤◌, ◌-◌}
 use Rattle.plan_keeper.specs.Kept.{IsKeptApart}
-use Rattle.run_plan.specs.Again.{vertices_of}
+use Rattle.run_plan.specs.inner.Again.{vertices_of}
 use Rattle.run_plan.proofs.Brought.{AreBroughtBelow}
 use Rattle.run_plan.proofs.again.bring_old.Given as goal
 
@@ -7,4 +8,8 @@ abbrev pub invariant-loop-number : goal.invariant-loop-number
 invariant-loop-number l = record {
   kept : IsKeptApart l.made;
   brought : AreBroughtBelow l.made.graph (vertices_of l.known l.costs l.needed) l.count l.number;
+  within : l.number ≤ l.count;
 }
+
+abbrev pub decreases-loop-number : goal.decreases-loop-number
+decreases-loop-number l = l.count - l.number

@@ -7,7 +7,7 @@ use Rattle.plan_checker.specs.Plan.{cost}
 use Rattle.plan_checker.specs.declared.vertex.Vertex.{Vertex}
 use Rattle.plan_keeper.specs.Kept.{IsKeptApart}
 use Rattle.plan_keeper.specs.declared.planned.Planned.{Planned}
-use Rattle.run_plan.specs.Again.{vertices_of}
+use Rattle.run_plan.specs.inner.Again.{vertices_of}
 use Rattle.run_plan.specs.Planned.{IsPlanOf}
 use Rattle.run_plan.proofs.Brought.{are_present}
 use Rattle.run_plan.proofs.again.plan_by.Goals as goal

@@ -1,5 +1,5 @@
 -- The vertices of known jobs, by their parts; and what it is to bring a graph up to date at one vertex.
-use Rattle.std.specs.Prelude.{◌≡◌, ◌≢◌, ◌≤◌, ℕ, Bool, List, length, map, take}
+use Rattle.std.specs.Prelude.{◌≡◌, ◌≢◌, ℕ, Bool, List, length, map, take}
 use Rattle.std.specs.List.{zip}
 use Rattle.job_graph.specs.declared.costs.Costs.{Costs}
 use Rattle.job_graph.specs.declared.growth.KnownJob.{KnownJob}

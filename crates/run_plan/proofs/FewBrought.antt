@@ -1,0 +1,132 @@
+-- A graph that is brought up to date where few jobs were touched.
+use Rattle.std.proofs.Common.{◌≡◌, ◌≢◌, ◌∙◌, ℕ, zero, suc, ◌+◌, ◌<◌, ◌≤◌, Bool, false, List, [], ◌∷◌, ◌++◌, length, map, take, get_or, set, sym, refl, ap, ⊎_elim, arith}
+use Rattle.std.proofs.Math.Seq.{take-suc}
+use Rattle.std.proofs.lemmas.Bool.{cases_eq}
+use Rattle.std.proofs.lemmas.List.{get_or-append_right, get_or_append_left, get_or-map, get_or-set_other, get_or-set_same, get_or-take, get_or_default, length-append, length-map, length-set, length-take-le, map-set, same_lists, set-get_or, set_past, take_all, take_more}
+use Rattle.job_graph.specs.PresentJobGraph.{AreWithin}
+use Rattle.job_graph.specs.declared.costs.Costs.{Costs}
+use Rattle.job_graph.specs.declared.growth.KnownJob.{KnownJob}
+use Rattle.plan_checker.specs.Graph.{no_vertex, vertex}
+use Rattle.plan_checker.specs.declared.vertex.Vertex.{Vertex}
+use Rattle.plan_checker.proofs.SumsBelow.{below_or_last}
+use Rattle.plan_keeper.specs.Kept.{IsKeptApart}
+use Rattle.plan_keeper.specs.declared.planned.Planned.{Planned}
+use Rattle.run_plan.specs.inner.Again.{IsBrought, vertex_of, vertices_of}
+use Rattle.run_plan.specs.Touched.{costs_in, patched}
+use Rattle.run_plan.specs.inner.Flagged.{AreFlaggedBelow, parents_at}
+use Rattle.run_plan.proofs.Brought.{vertices_count}
+
+-- one more that has changed
+patched_last : (costs : List Costs) (changed : List (ℕ × Costs)) (one : ℕ × Costs) → patched costs (changed ++ one ∷ []) ≡ set (patched costs changed) one.0 one.1
+patched_last costs [] one = refl
+patched_last costs (c ∷ changed) one = patched_last (set costs c.0 c.1) changed one
+
+pub patched_more : (costs : List Costs) (changed : List (ℕ × Costs)) (i : ℕ) (one : ℕ × Costs) → i < length changed → one ≡ get_or changed i one →
+    patched costs (take (i + 1) changed) ≡ set (patched costs (take i changed)) one.0 one.1
+patched_more costs changed i one within is =
+    ap (patched costs) (take_more changed i one within ∙ ap (λ (x : ℕ × Costs). take i changed ++ x ∷ []) (sym is)) ∙ patched_last costs (take i changed) one
+
+-- a graph that is brought up to date at a vertex
+brought_set : (old new : List Vertex) (number : ℕ) (job : Vertex) → number < length old → length new ≡ length old → IsBrought old new number job → new ≡ set old number job
+brought_set old new number job there many brought =
+    let as_many : length new ≡ length (set old number job) = many ∙ sym (length-set old number job) in
+    same_lists new (set old number job) as_many
+    (λ k d (hk : k < length new).
+    get_or_default new k d no_vertex hk
+    ∙ ⊎_elim
+    (λ (e : k ≡ number). ap (vertex new) e ∙ brought.there ∙ sym (get_or-set_same old number job no_vertex there) ∙ ap (vertex (set old number job)) (sym e))
+    (λ (e : k ≢ number). brought.others k e ∙ sym (get_or-set_other old number k job no_vertex e)) (cases_eq k number)
+    ∙ sym (get_or_default (set old number job) k d no_vertex (omega (arith, hk, as_many))))
+
+pub costs_brought : (old new : List Vertex) (number : ℕ) (parents : List ℕ) (costs : Costs) (needed : Bool) → number < length old → length new ≡ length old →
+    IsBrought old new number (vertex_of parents costs needed) → map costs_in new ≡ set (map costs_in old) number costs
+costs_brought old new number parents costs needed there many brought =
+    ap (map costs_in) (brought_set old new number (vertex_of parents costs needed) there many brought) ∙ map-set costs_in old number (vertex_of parents costs needed)
+
+pub costs_past : (graph : List Vertex) (number : ℕ) (costs : Costs) → length graph ≤ number → map costs_in graph ≡ set (map costs_in graph) number costs
+costs_past graph number costs past = sym (set_past (map costs_in graph) number costs (omega (arith, past, length-map graph costs_in)))
+
+-- at its own costs
+pub costs_same : (old new : List Vertex) (number : ℕ) (parents : List ℕ) (needed : Bool) → number < length old → length new ≡ length old →
+    IsBrought old new number (vertex_of parents (costs_in (vertex old number)) needed) → map costs_in new ≡ map costs_in old
+costs_same old new number parents needed there many brought =
+    costs_brought old new number parents (costs_in (vertex old number)) needed there many brought ∙ sym (map-set costs_in old number (vertex old number))
+    ∙ ap (map costs_in) (set-get_or old number no_vertex)
+
+pub within_kept : (made : Planned) (number : ℕ) → IsKeptApart made → number < length made.graph → AreWithin (costs_in (vertex made.graph number))
+within_kept made number kept there = record { load = (kept.good number there).load_cost; compute = (kept.good number there).compute_cost }
+
+pub parents_are : (known : List KnownJob) (n : ℕ) (job : KnownJob) → n < length known → job ≡ get_or known n job → job.parents ≡ parents_at known n
+parents_are known n job within is = ap (λ (k : KnownJob). k.parents) is ∙ sym (get_or-map (λ (k : KnownJob). k.parents) known n job [] within)
+
+-- one more vertex is flagged
+pub flagged_more : (known : List KnownJob) (needed : List Bool) (old new : List Vertex) (n : ℕ) → AreFlaggedBelow known needed old n →
+    IsBrought old new n (vertex_of (parents_at known n) (costs_in (vertex old n)) (get_or needed n false)) → AreFlaggedBelow known needed new (n + 1)
+flagged_more known needed old new n before now i hi =
+    ⊎_elim
+    (λ (lt : i < n).
+    let same : vertex new i ≡ vertex old i = now.others i (λ e. absurd (omega (arith, e, lt))) in
+    same ∙ before i lt ∙ ap (λ (v : Vertex). vertex_of (parents_at known i) (costs_in v) (get_or needed i false)) (sym same))
+    (λ (last : i ≡ n).
+    ap (vertex new) last ∙ now.there
+    ∙ ap (λ (c : Costs). vertex_of (parents_at known n) c (get_or needed n false)) (sym (ap costs_in now.there))
+    ∙ ap (λ (m : ℕ). vertex_of (parents_at known m) (costs_in (vertex new m)) (get_or needed m false)) (sym last))
+    (below_or_last n i (omega (arith, hi)))
+
+-- the vertices of known jobs by their numbers
+pub at_parts : (known : List KnownJob) (costs : List Costs) (needed : List Bool) (i : ℕ) (d : Costs) → length costs ≡ length known → length needed ≡ length known → i < length known →
+    vertex (vertices_of known costs needed) i ≡ vertex_of (parents_at known i) (get_or costs i d) (get_or needed i false)
+at_parts [] costs needed i d many flags hi = absurd (omega (arith, hi))
+at_parts (k ∷ known) [] needed i d many flags hi = absurd (omega (arith, many))
+at_parts (k ∷ known) (c ∷ costs) [] i d many flags hi = absurd (omega (arith, flags))
+at_parts (k ∷ known) (c ∷ costs) (b ∷ needed) zero d many flags hi = refl
+at_parts (k ∷ known) (c ∷ costs) (b ∷ needed) (suc i) d many flags hi = at_parts known costs needed i d (omega (arith, many)) (omega (arith, flags)) (omega (arith, hi))
+
+module _ (known : List KnownJob) (graph : List Vertex) (later : List Costs) (needed : List Bool) (each : length graph + length later ≡ length known) (flags : length needed ≡ length known) where
+  abbrev pub all_costs : List Costs
+  all_costs = map costs_in graph ++ later
+
+  all_many : length all_costs ≡ length known
+  all_many = omega (arith, length-append (map costs_in graph) later, length-map graph costs_in, each)
+
+  -- those that are flagged are the first of all
+  pub flagged_first : AreFlaggedBelow known needed graph (length graph) → graph ≡ take (length graph) (vertices_of known all_costs needed)
+  flagged_first flagged =
+      let all : List Vertex = vertices_of known all_costs needed in
+      let count : length all ≡ length known = vertices_count known all_costs needed all_many flags in
+      let few : length graph ≤ length all = omega (arith, each, count) in
+      same_lists graph (take (length graph) all) (sym (length-take-le (length graph) all few))
+      (λ k d (hk : k < length graph).
+      get_or_default graph k d no_vertex hk ∙ flagged k hk
+      ∙ ap (λ (c : Costs). vertex_of (parents_at known k) c (get_or needed k false))
+      (sym (get_or_append_left (map costs_in graph) later (costs_in no_vertex) k (omega (arith, hk, length-map graph costs_in)) ∙ get_or-map costs_in graph k no_vertex (costs_in no_vertex) hk))
+      ∙ sym (at_parts known all_costs needed k (costs_in no_vertex) all_many flags (omega (arith, hk, each)))
+      ∙ sym (get_or_default all k d no_vertex (omega (arith, hk, few)))
+      ∙ sym (get_or-take (length graph) all k d hk))
+
+  pub none_later : AreFlaggedBelow known needed graph (length graph) → graph ≡ take (length graph + 0) (vertices_of known all_costs needed)
+  none_later flagged =
+      let none : length graph ≡ length graph + 0 = omega arith in
+      flagged_first flagged ∙ ap (λ (n : ℕ). take n (vertices_of known all_costs needed)) none
+
+  -- and then the later ones come
+  pub later_more : (now : List Vertex) (k : ℕ) (cost : Costs) (job : Vertex) → now ≡ take (length graph + k) (vertices_of known all_costs needed) → k < length later → cost ≡ get_or later k cost →
+      job ≡ vertex_of (parents_at known (length graph + k)) cost (get_or needed (length graph + k) false) →
+      now ++ job ∷ [] ≡ take (length graph + (k + 1)) (vertices_of known all_costs needed)
+  later_more now k cost job first within its is =
+      let n : ℕ = length graph + k in
+      let all : List Vertex = vertices_of known all_costs needed in
+      let count : length all ≡ length known = vertices_count known all_costs needed all_many flags in
+      let there : n < length known = omega (arith, within, each) in
+      let paid : get_or all_costs n cost ≡ cost =
+      get_or-append_right (map costs_in graph) later (length graph) n cost (length-map graph costs_in) (omega arith) ∙ ap (λ (m : ℕ). get_or later m cost) (omega arith) ∙ sym its in
+      let same : job ≡ vertex all n =
+      is ∙ ap (λ (c : Costs). vertex_of (parents_at known n) c (get_or needed n false)) (sym paid) ∙ sym (at_parts known all_costs needed n cost all_many flags there) in
+      let next : suc n ≡ length graph + (k + 1) = omega arith in
+      ap (λ (front : List Vertex). front ++ job ∷ []) first ∙ ap (λ (v : Vertex). take n all ++ v ∷ []) same ∙ sym (take-suc all n no_vertex (omega (arith, there, count)))
+      ∙ ap (λ (m : ℕ). take m all) next
+
+  pub all_later : (now : List Vertex) (k : ℕ) → now ≡ take (length graph + k) (vertices_of known all_costs needed) → length later ≤ k → now ≡ vertices_of known all_costs needed
+  all_later now k first past =
+      let count : length (vertices_of known all_costs needed) ≡ length known = vertices_count known all_costs needed all_many flags in
+      first ∙ take_all (length graph + k) (vertices_of known all_costs needed) (omega (arith, past, each, count))

@@ -1,0 +1,32 @@
+use Rattle.std.specs.Prelude.{IfSome}
+use Rattle.std.proofs.Common.{◌≡◌, ◌∙◌, List, Option, ap, subst, sym}
+use Rattle.job_graph.specs.PresentJobGraph.{present_job_graph}
+use Rattle.job_graph.specs.declared.costs.Costs.{Costs}
+use Rattle.plan_checker.specs.Certificate.{IsCertificate}
+use Rattle.plan_checker.specs.Least.{IsLeast}
+use Rattle.plan_checker.specs.Plan.{cost}
+use Rattle.plan_checker.specs.declared.vertex.Vertex.{Vertex}
+use Rattle.plan_keeper.specs.Kept.{IsKeptApart}
+use Rattle.plan_keeper.specs.declared.planned.Planned.{Planned}
+use Rattle.run_plan.specs.inner.Again.{vertices_of}
+use Rattle.run_plan.specs.Planned.{IsPlanOf}
+use Rattle.run_plan.specs.Touched.{costs_after}
+use Rattle.run_plan.proofs.Brought.{are_present}
+use Rattle.run_plan.proofs.few.plan_few.Goals as goal
+
+pub returns-in-Some : goal.returns-in-Some
+returns-in-Some c =
+    let known = c.args.known.now in
+    let made = c.in-Some.made in
+    let costs : List Costs = costs_after c.args.made.graph c.args.changed.now c.args.later.now in
+    let brought = subst (λ (found : Option Planned). IfSome found (λ made. IsKeptApart made × (made.graph ≡ vertices_of c.known.result.now costs c.args.needed.now))) c.in-Some.is
+    c.in_ok-made.ensures in
+    let graph : made.graph ≡ present_job_graph known.learned known.known known.outs costs =
+    brought.1 ∙ are_present known.learned known.outs c.known.result.now costs c.args.needed.now known.known c.known.ensures.jobs c.known.ensures.parents c.requires.needed in
+    let plan = c.kept_is_planned.ensures made brought.0 in
+    subst (IsPlanOf (present_job_graph known.learned known.known known.outs costs)) (sym c.apart.ensures) (record {
+      its_graph = graph;
+      least = subst (λ (vertices : List Vertex). IsLeast vertices made.plan.marks) graph plan.0;
+      certified = subst (λ (vertices : List Vertex). IsCertificate vertices made.plan.marks made.charges) graph plan.1;
+      its_cost = brought.0.its_cost ∙ ap (λ (vertices : List Vertex). cost vertices made.plan.marks) graph;
+    })

@@ -1,0 +1,22 @@
+-- The costs of known jobs, by what the graph before has, what has changed since and what was added.
+use Rattle.std.specs.Prelude.{ℕ, List, [], ◌∷◌, ◌++◌, Option, Some, None, map, slice_set}
+use Rattle.job_graph.specs.declared.costs.Costs.{Costs}
+use Rattle.plan_checker.specs.declared.vertex.Vertex.{Vertex}
+use Rattle.plan_keeper.specs.declared.planned.Planned.{Planned}
+
+-- the graph of a plan; none without one
+abbrev pub graph_in : Option Planned → List Vertex
+graph_in None = []
+graph_in (Some made) = made.graph
+
+abbrev pub costs_in : Vertex → Costs
+costs_in job = record { load = job.load; compute = job.compute }
+
+-- these costs, but for those that changed, each with its number
+abbrev pub patched : List Costs → List (ℕ × Costs) → List Costs
+patched costs [] = costs
+patched costs (one ∷ changed) = patched (slice_set costs one.0 one.1) changed
+
+-- what the jobs cost now: those of the graph what they did, but for those that changed, and then the later ones
+abbrev pub costs_after : List Vertex → List (ℕ × Costs) → List Costs → List Costs
+costs_after graph changed later = patched (map costs_in graph) changed ++ later

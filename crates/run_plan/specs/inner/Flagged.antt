@@ -1,0 +1,16 @@
+-- The vertices that have the parents of their jobs, and are needed where those are.
+use Rattle.std.specs.Prelude.{◌≡◌, ◌<◌, ℕ, Bool, false, List, [], map, slice_index_or}
+use Rattle.job_graph.specs.declared.growth.KnownJob.{KnownJob}
+use Rattle.plan_checker.specs.Graph.{vertex}
+use Rattle.plan_checker.specs.declared.vertex.Vertex.{Vertex}
+use Rattle.run_plan.specs.Touched.{costs_in}
+use Rattle.run_plan.specs.inner.Again.{vertex_of}
+
+-- the parents of the known job of a number
+abbrev pub parents_at : List KnownJob → ℕ → List ℕ
+parents_at known n = slice_index_or (map (λ job. job.parents) known) n []
+
+-- the first n vertices have the parents of these jobs, and are needed or not as this says
+abbrev pub AreFlaggedBelow : List KnownJob → List Bool → List Vertex → ℕ → Type 0
+AreFlaggedBelow known needed graph n =
+    (i : ℕ) → i < n → vertex graph i ≡ vertex_of (parents_at known i) (costs_in (vertex graph i)) (slice_index_or needed i false)

@@ -1,0 +1,282 @@
+//! The plan of the jobs that are known, where few were touched since the last one.
+ghost use Rattle.std.specs.Prelude.{◌≡◌, ◌≢◌, ◌≤◌, ◌+◌, ◌-◌, ◌<◌, ◌++◌, IfErr, IfOk, IfSome, IsTrue, None, OnOk, false, length, map, slice_index_or, slice_set};
+ghost use Rattle.job_graph.specs.PresentJobGraph.{AreWithin, needed_among, present_job_graph};
+ghost use Rattle.job_graph.specs.Unfolding.{Blames};
+ghost use Rattle.job_graph.specs.declared.fault.UnfoldError.{UnfoldError};
+ghost use Rattle.plan_checker.specs.Graph.{vertex};
+ghost use Rattle.plan_keeper.specs.Kept.{IsKeptApart};
+ghost use Rattle.run_plan.specs.inner.Again.{IsBrought, vertex_of, vertices_of};
+ghost use Rattle.run_plan.specs.Planned.{IsPlanOf};
+ghost use Rattle.run_plan.specs.Touched.{costs_after, costs_in, graph_in, patched};
+ghost use Rattle.run_plan.specs.inner.Flagged.{AreFlaggedBelow, parents_at};
+
+use crate::again::{added, are_same, bring_one};
+use crate::kept::KeptPlan;
+use job_graph::{Costs, KnownJob, UnfoldError, Unfolding};
+use plain_data::Items;
+use plan_checker::{MOST_COST, Vertex};
+use plan_keeper::{Planned, kept_is_planned};
+use std::alloc::{AllocError, Global};
+use std::mem;
+
+/// Plans the present job graph of the jobs that are known by the last plan, and takes that away. The jobs of its graph cost what
+/// they do there, but for these that have changed, each with its number; the later jobs have these costs. Returns no plan where
+/// the last one can't be brought up to date. After a refused `learn` it answers that refusal, and the last plan stays.
+pub fn plan_touched(
+    alloc: Global,
+    known: &Unfolding<'_>,
+    changed: &[(usize, Costs)],
+    later: &[Costs],
+    last: &mut Option<KeptPlan>,
+) -> Result<Option<KeptPlan>, UnfoldError>
+    requires each { length (graph_in last.old) + length later.now ≡ length known.now.known }
+    ensures ok { IfOk result (λ found. IfSome found (IsPlanOf (present_job_graph known.now.learned
+        known.now.known known.now.outs
+        (costs_after (graph_in last.old) changed.now later.now)))) }
+    ensures taken { OnOk result (last.new ≡ None) }
+    ensures goes_on { OnOk result (known.now.refused ≡ None) }
+    ensures err { IfErr result (Blames known.now.refused) }
+    ensures stays { IfErr result (λ error. error ≢ UnfoldError.OutOfMemory
+        → last.new ≡ last.old) }
+{
+    let needed = known.needed()?;
+    match apart_of(mem::replace(last, None)) {
+        None => Ok(None),
+        Some(made) => {
+            let found = plan_few(alloc, known, changed, later, needed.as_slice(), made)?;
+            Ok(found)
+        }
+    }
+}
+
+/// The plan, if there is one that can be brought up to date.
+fn apart_of(last: Option<KeptPlan>) -> Option<Planned>
+    ensures { IfSome result (λ made. IsKeptApart made × (made.graph ≡ graph_in last)) }
+{
+    match last {
+        None => None,
+        Some(kept) => kept.if_apart(),
+    }
+}
+
+/// Brings the plan before up to date.
+fn plan_few(
+    alloc: Global,
+    known: &Unfolding<'_>,
+    changed: &[(usize, Costs)],
+    later: &[Costs],
+    needed: &[bool],
+    made: Planned,
+) -> Result<Option<KeptPlan>, AllocError>
+    requires kept { IsKeptApart made }
+    requires each { length made.graph + length later.now ≡ length known.now.known }
+    requires needed { needed.now ≡ needed_among known.now.learned known.now.outs known.now.known }
+    ensures { IfOk result (λ found. IfSome found (IsPlanOf (present_job_graph known.now.learned
+        known.now.known known.now.outs (costs_after made.graph changed.now later.now)))) }
+{
+    kept_is_planned();
+    match brought(alloc, made, known.known(), changed, later, needed)? {
+        Some(made) => Ok(Some(KeptPlan::apart(made))),
+        None => Ok(None),
+    }
+}
+
+/// The plan before, brought up to date; none where the vertices don't stand apart any more.
+fn brought(
+    alloc: Global,
+    made: Planned,
+    known: &[KnownJob<'_>],
+    changed: &[(usize, Costs)],
+    later: &[Costs],
+    needed: &[bool],
+) -> Result<Option<Planned>, AllocError>
+    requires kept { IsKeptApart made }
+    requires each { length made.graph + length later.now ≡ length known.now }
+    requires needed { length needed.now ≡ length known.now }
+    ensures { IfOk result (λ found. IfSome found (λ more. IsKeptApart more
+        × (more.graph ≡ vertices_of known.now (costs_after made.graph changed.now later.now)
+        needed.now))) }
+{
+    let mut made = made;
+    if !bring_changed(alloc, &mut made, known, changed, needed) {
+        return Ok(None);
+    }
+    if !bring_flags(alloc, &mut made, known, needed) {
+        return Ok(None);
+    }
+    add_later(alloc, made, known, later, needed)
+}
+
+/// Brings the costs up to date that have changed. Returns whether they are.
+fn bring_changed(
+    alloc: Global,
+    made: &mut Planned,
+    known: &[KnownJob<'_>],
+    changed: &[(usize, Costs)],
+    needed: &[bool],
+) -> bool
+    requires kept { IsKeptApart made.old }
+    requires known { length made.old.graph ≤ length known.now }
+    requires needed { length needed.now ≡ length known.now }
+    ensures kept { IsKeptApart made.new }
+    ensures count { length made.new.graph ≡ length made.old.graph }
+    ensures costs { IsTrue result → map costs_in made.new.graph
+        ≡ patched (map costs_in made.old.graph) changed.now }
+{
+    for one in changed {
+        if !bring_costs(alloc, made, known, one.0, one.1, needed) {
+            return false;
+        }
+    }
+    true
+}
+
+/// Brings the costs of a vertex up to date, if there is one of this number. Returns whether they are.
+#[tactic(auto, using(crate::proofs::FewBrought::costs_past))]
+fn bring_costs(
+    alloc: Global,
+    made: &mut Planned,
+    known: &[KnownJob<'_>],
+    number: usize,
+    costs: Costs,
+    needed: &[bool],
+) -> bool
+    requires kept { IsKeptApart made.old }
+    requires known { length made.old.graph ≤ length known.now }
+    requires needed { length needed.now ≡ length known.now }
+    ensures kept { IsKeptApart made.new }
+    ensures count { length made.new.graph ≡ length made.old.graph }
+    ensures costs { IsTrue result → map costs_in made.new.graph
+        ≡ slice_set (map costs_in made.old.graph) number costs }
+{
+    if number >= made.graph.vertices().len() {
+        return true;
+    }
+    if !are_free(costs) {
+        return false;
+    }
+    let parents = known[number].parents.as_slice();
+    bring_one(alloc, made, number, parents, costs, needed[number])
+}
+
+/// Whether these are the costs of a free vertex.
+fn are_free(costs: Costs) -> bool
+    ensures { IsTrue result → AreWithin costs }
+{
+    costs.load == Some(0) && 1 <= costs.compute && costs.compute <= MOST_COST
+}
+
+/// Brings the vertices up to date that are needed no more. Returns whether they are.
+fn bring_flags(alloc: Global, made: &mut Planned, known: &[KnownJob<'_>], needed: &[bool]) -> bool
+    requires kept { IsKeptApart made.old }
+    requires known { length made.old.graph ≤ length known.now }
+    requires needed { length needed.now ≡ length known.now }
+    ensures kept { IsKeptApart made.new }
+    ensures count { length made.new.graph ≡ length made.old.graph }
+    ensures costs { IsTrue result → map costs_in made.new.graph
+        ≡ map costs_in made.old.graph }
+    ensures flagged { IsTrue result → AreFlaggedBelow known.now needed.now made.new.graph
+        (length made.old.graph) }
+{
+    let count = made.graph.vertices().len();
+    for number in 0..count {
+        if !bring_flag(alloc, made, known, needed, number) {
+            return false;
+        }
+    }
+    true
+}
+
+/// Brings a vertex up to date that costs what it did. Returns whether it is.
+fn bring_flag(
+    alloc: Global,
+    made: &mut Planned,
+    known: &[KnownJob<'_>],
+    needed: &[bool],
+    number: usize,
+) -> bool
+    requires kept { IsKeptApart made.old }
+    requires there { number < length made.old.graph }
+    requires known { length made.old.graph ≤ length known.now }
+    requires needed { length needed.now ≡ length known.now }
+    ensures kept { IsKeptApart made.new }
+    ensures count { length made.new.graph ≡ length made.old.graph }
+    ensures brought { IsTrue result → IsBrought made.old.graph made.new.graph number
+        (vertex_of (parents_at known.now number) (costs_in (vertex made.old.graph number))
+        (slice_index_or needed.now number false)) }
+{
+    let parents = known[number].parents.as_slice();
+    let vertex = &made.graph.vertices()[number];
+    if is_flagged(vertex, parents, needed[number]) {
+        return true;
+    }
+    let costs = costs_in(vertex);
+    bring_one(alloc, made, number, parents, costs, needed[number])
+}
+
+/// Whether a vertex has these parents, and is needed or not as this says.
+fn is_flagged(vertex: &Vertex, parents: &[usize], needed: bool) -> bool
+    ensures { IsTrue result → vertex.now ≡ vertex_of parents.now (costs_in vertex.now) needed }
+{
+    vertex.needed == needed && are_same(vertex.parents.as_slice(), parents)
+}
+
+/// What a vertex costs.
+fn costs_in(vertex: &Vertex) -> Costs
+    ensures { result ≡ costs_in vertex.now }
+{
+    Costs {
+        load: vertex.load,
+        compute: vertex.compute,
+    }
+}
+
+/// Adds the vertices of the later jobs.
+fn add_later(
+    alloc: Global,
+    made: Planned,
+    known: &[KnownJob<'_>],
+    later: &[Costs],
+    needed: &[bool],
+) -> Result<Option<Planned>, AllocError>
+    requires kept { IsKeptApart made }
+    requires flagged { AreFlaggedBelow known.now needed.now made.graph (length made.graph) }
+    requires each { length made.graph + length later.now ≡ length known.now }
+    requires needed { length needed.now ≡ length known.now }
+    ensures { IfOk result (λ found. IfSome found (λ more. IsKeptApart more
+        × (more.graph ≡ vertices_of known.now (map costs_in made.graph ++ later.now)
+        needed.now))) }
+{
+    let mut made = made;
+    let count = made.graph.vertices().len();
+    for index in 0..later.len() {
+        let vertex = later_vertex(alloc, known, needed, count + index, later[index])?;
+        match added(alloc, made, vertex)? {
+            Some(more) => made = more,
+            None => return Ok(None),
+        }
+    }
+    Ok(Some(made))
+}
+
+/// The vertex of a later job.
+fn later_vertex(
+    alloc: Global,
+    known: &[KnownJob<'_>],
+    needed: &[bool],
+    number: usize,
+    costs: Costs,
+) -> Result<Vertex, AllocError>
+    requires known { number < length known.now }
+    requires needed { length needed.now ≡ length known.now }
+    ensures { IfOk result (λ vertex. vertex ≡ vertex_of (parents_at known.now number) costs
+        (slice_index_or needed.now number false)) }
+{
+    let parents = known[number].parents.as_slice();
+    Ok(Vertex {
+        load: costs.load,
+        compute: costs.compute,
+        parents: Items::from_vec(Vec::from_slice(alloc, parents)?),
+        needed: needed[number],
+    })
+}
