@@ -1,6 +1,6 @@
 -- What is picked, by the tests that lead there.
 use Rattle.std.specs.Prelude.{OnErr}
-use Rattle.std.proofs.Common.{◌≡◌, ◌∙◌, ℕ, None, Result, Ok, Err, refl, sym, ap, subst}
+use Rattle.std.proofs.Common.{◌≡◌, ◌∙◌, ℕ, [], None, Some, Result, Ok, Err, refl, sym, ap, subst}
 use Rattle.proc_host.specs.declared.call.HostFault.{HostFault}
 use Rattle.proc_host.specs.declared.call.HostRequest.{HostRequest}
 use Rattle.job_graph.specs.Words.{JobPlace}
@@ -11,12 +11,15 @@ use Rattle.run_core.specs.declared.state.JobNext.{JobNext}
 use Rattle.run_core.specs.declared.state.JobPhase.{JobPhase}
 use Rattle.run_core.specs.declared.state.Phase.{Phase}
 use Rattle.run_core.specs.declared.state.Turn.{Turn}
-use Rattle.run_core.specs.inner.Course.{known_in, past_of, place_at}
+use Rattle.run_core.specs.inner.Course.{TellsAlike, known_in, past_of, place_at, with_hand}
 use Rattle.run_core.specs.inner.Follows.{AfterFailure, asked_at}
-use Rattle.run_core.specs.inner.Picks.{AfterFault, Chooses, Picks, Turns, asks, chooses, Finds, IsNextToFind, NoneToFind, finds}
+use Rattle.run_core.specs.inner.Picks.{AfterFault, Chooses, Picks, Turns, asks, chooses, Finds, IsNextToFind, NoneToFind, Puts, ends_so, finds, repeats}
+use Rattle.run_core.specs.inner.JobStates.{state_at}
 use Rattle.run_core.specs.inner.Planning.{Replans}
 use Rattle.run_rules.specs.declared.request.Request.{Request}
-use Rattle.run_core.specs.inner.Turn.{works}
+use Rattle.run_rules.specs.declared.outcome.Outcome.{Outcome}
+use Rattle.run_rules.specs.declared.outcome.RunFault.{RunFault}
+use Rattle.run_core.specs.inner.Turn.{ends, works}
 
 module _ (given : Given) (course : Course) (going : course.end ≡ None) where
   pub picks_find : (number : ℕ) (turn : Turn) → IsNextToFind course number → Finds course number turn → Picks given course turn course
@@ -47,3 +50,13 @@ fault_by given old asked Phase.Collecting fault turn new one other third after =
 fault_by given old asked Phase.Draining fault turn new one other third after = absurd (other refl)
 fault_by given old asked (Phase.Storing number row) fault turn new one other third after = absurd (third number row refl)
 fault_by given old asked phase fault turn new one other third after = after
+
+-- a job gives what its row has
+pub repeats_now : (given : Given) (old new : Course) (number : ℕ) (row : Row) (turn : Turn) → past_of new ≡ with_hand number (past_of old) → new.known ≡ old.known →
+    Puts given (place_at (known_in old.known) number) (state_at old.jobs number).folder new number row turn new → Turns given old number (JobNext.Repeats row) turn new
+repeats_now given old new number row turn past known puts = repeats row new turn new past known puts
+
+-- the end that was settled comes
+pub ends_now : (given : Given) (old new : Course) (turn : Turn) (end : Result Outcome RunFault) → turn ≡ ends end → old.end ≡ Some end → old.tickets.items ≡ [] → new.tickets.items ≡ [] →
+    new.known ≡ old.known → TellsAlike (past_of old) (past_of new) → Picks given old turn new
+ends_now given old new turn end is ended none still known alike = subst (λ (t : Turn). Picks given old t new) (sym is) (ends_so end new ended none still known alike)

@@ -1,6 +1,9 @@
 pub mod Asked
 pub mod Choices
 pub mod Choosing
+pub mod FewPlans
+pub mod FewTouched
+pub mod Fits
 pub mod FoundRows
 pub mod Holding
 pub mod Kept

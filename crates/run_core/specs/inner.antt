@@ -1,8 +1,11 @@
 pub mod Anyway
+pub mod Archives
 pub mod Attempts
 pub mod Course
 pub mod Due
 pub mod Fetches
+pub mod Few
+pub mod Fits
 pub mod Follows
 pub mod Inside
 pub mod FoundRows
@@ -17,5 +20,6 @@ pub mod Picks
 pub mod Places
 pub mod Planning
 pub mod Standing
+pub mod Touched
 pub mod Turn
 pub mod Turns

@@ -8,10 +8,13 @@ ghost use Rattle.run_core.specs.inner.Turn.{permanent};
 ghost use Rattle.run_rules.specs.declared.outcome.RunFault.{RunFault as Fault};
 ghost use Rattle.run_core.specs.inner.Follows.{asked_at};
 ghost use Rattle.run_core.specs.inner.FoundRows.{rows_after};
+ghost use Rattle.run_core.specs.inner.Touched.{TouchesBelow};
+ghost use Rattle.run_plan.specs.Touched.{graph_in};
 
 use crate::found_rows::FoundRows;
 use crate::job_states::JobStates;
 use crate::state::{Course, Flight, Kept};
+use crate::touches::Touched;
 use crate::turn::permanent;
 use crate::{Cause, Note, NoteKind, Outcome, RecordAnswer, Request, RunFault};
 use cwl_value::{JobPlace, Value, copy_job};
@@ -19,6 +22,7 @@ use job_graph::{Job, KnownJob, UnfoldError, UnfoldFault, Unfolding};
 use job_rows::RecordRefusal;
 use plain_data::{Items, Keyed, Text};
 use proc_host::HostFault;
+use run_plan::{KeptPlan, Rates};
 use std::alloc::{AllocError, Global};
 use std::mem;
 
@@ -37,6 +41,9 @@ pub(crate) fn at_first<'a>(alloc: Global) -> Course<'a>
         lost: Vec::new(alloc),
         notes: Vec::new(alloc),
         planned: None,
+        touched: Touched::all(),
+        rates: Rates::new(0, 1),
+        keep: false,
         plans: Vec::new(alloc),
         known: None,
         end: None,
@@ -105,7 +112,10 @@ pub(crate) fn note_staging(course: &mut Course<'_>, number: usize) -> Result<(),
     ensures flights { course.new.flights ≡ course.old.flights }
 {
     let folder = course.folders + 1;
+    let mut touched = mem::replace(&mut course.touched, Touched::all());
+    touched.add(number);
     course.jobs.stage(number, folder)?;
+    course.touched = touched;
     course.folders = folder;
     Ok(())
 }
@@ -118,7 +128,10 @@ pub(crate) fn note_load(course: &mut Course<'_>, number: usize) -> Result<(), Al
     ensures tickets { course.new.tickets ≡ course.old.tickets }
 {
     let folder = course.folders + 1;
+    let mut touched = mem::replace(&mut course.touched, Touched::all());
+    touched.add(number);
     course.jobs.load(number, folder)?;
+    course.touched = touched;
     course.folders = folder;
     Ok(())
 }
@@ -135,6 +148,7 @@ pub(crate) fn note_loss(
     ensures tickets { course.new.tickets ≡ course.old.tickets }
 {
     let key = key_of_row(alloc, course, number)?;
+    course.touched = Touched::all();
     course.jobs.miss(number)?;
     course.lost.push(key)?;
     course.folders += 1;
@@ -241,6 +255,7 @@ pub(crate) fn note_giving_up(
 {
     let gave_up = course.jobs.tries(number);
     if gave_up < retries {
+        course.touched = Touched::all();
         course.jobs.give_up(number);
         return Ok(());
     }
@@ -311,12 +326,52 @@ pub(crate) fn note_answer(
     let _number_has_a_next = known_in(&course.known).len();
     match refusal {
         None => {
-            keep_row(alloc, &mut course.rows, number, answer)?;
+            note_row(alloc, course, number, answer)?;
             course.looked_up = number + 1;
         }
         Some(refusal) => settle(course, Err(RunFault::Record(refusal))),
     }
     Ok(())
+}
+
+/// Notes what the record has told of the job of this number.
+fn note_row(
+    alloc: Global,
+    course: &mut Course<'_>,
+    number: usize,
+    answer: &RecordAnswer,
+) -> Result<(), AllocError>
+    ensures rows { OnOk result (past_of course.new ≡ record (past_of course.old)
+        { rows = rows_after number answer.now course.old.rows }) }
+    ensures known { course.new.known ≡ course.old.known }
+    ensures flying { course.new.tickets.items ≡ course.old.tickets.items }
+{
+    let touched = mem::replace(&mut course.touched, Touched::all());
+    let touched = touched_too(touched, &course.planned, number);
+    keep_row(alloc, &mut course.rows, number, answer)?;
+    course.touched = touched;
+    Ok(())
+}
+
+/// The job of this number is touched too, where the plan in force has it.
+fn touched_too(touched: Touched, planned: &Option<KeptPlan>, number: usize) -> Touched
+    ensures { TouchesBelow (length (graph_in planned.now)) number touched result }
+{
+    let mut touched = touched;
+    if number < vertices_in(planned) {
+        touched.add(number);
+    }
+    touched
+}
+
+/// How many vertices the plan in force has.
+fn vertices_in(planned: &Option<KeptPlan>) -> usize
+    ensures { result ≡ length (graph_in planned.now) }
+{
+    match planned {
+        None => 0,
+        Some(kept) => kept.made().graph.vertices().len(),
+    }
 }
 
 /// Keeps the row that the record has told, if it told one.

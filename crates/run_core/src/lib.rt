@@ -14,6 +14,7 @@ mod collects;
 mod course;
 mod delivery;
 mod fetching;
+mod few;
 mod fields;
 mod files;
 mod finding;
@@ -31,6 +32,7 @@ mod starts;
 mod state;
 mod steps;
 mod stops;
+mod touches;
 mod turn;
 mod turns;
 

@@ -1,19 +1,23 @@
 //! The plan in force: the Least plan of the present job graph, made anew at each planning point.
-ghost use Rattle.std.specs.Prelude.{◌≡◌, ◌<◌, ◌↔◌, All, IfErr, IfOk, IsTrue, MatchBool, MatchOption, OnErr, OnOk, length, option_map};
+ghost use Rattle.std.specs.Prelude.{◌≡◌, ◌<◌, ◌↔◌, All, IfErr, IfOk, IsTrue, MatchBool, MatchOption, OnErr, OnOk, Some, [], length, option_map};
 ghost use Rattle.job_graph.specs.PresentJobGraph.{AreWithin};
 ghost use Rattle.job_graph.specs.Unfold.{Fault};
 ghost use Rattle.plan_checker.specs.Plan.{mark};
 ghost use Rattle.run_core.specs.inner.Course.{known_in as jobs_in, past_of, with_plan};
 ghost use Rattle.run_core.specs.inner.Marks.{is_compute, is_load, marks_in};
 ghost use Rattle.run_core.specs.inner.Planning.{AllThere, AreCosts, IsLentTo, IsPlanAt, IsToldPlan, PlansNothing, Replans, SomeAway, costs_at};
+ghost use Rattle.run_core.specs.inner.Few.{AreFew};
+ghost use Rattle.run_core.specs.inner.Fits.{Fits};
 
 use crate::PlanNote;
 use crate::course::known_in;
 use crate::fetching::can_load;
+use crate::few::{Few, few_in};
 use crate::state::{Course, Given};
+use crate::touches::Touched;
 use job_graph::{Costs, UnfoldError};
 use plan_checker::Mark;
-use run_plan::{KeptPlan, Standing, costs_of, plan_on};
+use run_plan::{KeptPlan, Standing, costs_of, costs_without_row, plan_on, plan_touched};
 use std::alloc::{AllocError, Global};
 use std::mem;
 
@@ -38,6 +42,8 @@ pub(crate) fn replan(
 
 /// The plan is in force from now on, and noted.
 fn keep(given: &Given<'_>, course: &mut Course<'_>, made: KeptPlan) -> Result<(), AllocError>
+    requires { Fits given.now.rates given.now.options.keep course.old.jobs course.old.lost.items
+        course.old.rows (Some []) (Some made) }
     ensures past { OnOk result (past_of course.new
         ≡ with_plan given.now.answers made (past_of course.old)) }
     ensures known { course.new.known ≡ course.old.known }
@@ -51,6 +57,9 @@ fn keep(given: &Given<'_>, course: &mut Course<'_>, made: KeptPlan) -> Result<()
     match course.plans.push(note) {
         Ok(()) => {
             mem::drop(mem::replace(&mut course.planned, Some(made)));
+            course.touched = Touched::none();
+            course.rates = given.rates.copied();
+            course.keep = given.options.keep;
             Ok(())
         }
         Err(_) => {
@@ -85,7 +94,53 @@ fn planned_anew(
     ensures tickets { course.new.tickets.items ≡ course.old.tickets.items }
     ensures folders { course.new.folders ≡ course.old.folders }
 {
+    match few_in(alloc, given, course)? {
+        None => planned_whole(alloc, given, course),
+        Some(few) => planned_few(alloc, given, course, few),
+    }
+}
+
+/// The same by what has changed since the last plan; where that can't be brought up to date, by all costs.
+fn planned_few(
+    alloc: Global,
+    given: &Given<'_>,
+    course: &mut Course<'_>,
+    few: Few,
+) -> Result<Option<KeptPlan>, AllocError>
+    requires { AreFew given.now course.old few }
+    ensures made { IfOk result (λ made. MatchOption made (PlansNothing course.old)
+        (IsPlanAt given.now course.old)) }
+    ensures rest { IfOk result (IsLentTo course.old course.new) }
+    ensures tickets { course.new.tickets.items ≡ course.old.tickets.items }
+    ensures folders { course.new.folders ≡ course.old.folders }
+{
+    course.touched = Touched::all();
+    let changed = few.changed.as_slice();
+    let later = few.later.as_slice();
+    match &course.known {
+        None => Ok(None),
+        Some(known) => match plan_touched(alloc, known, changed, later, &mut course.planned) {
+            Ok(None) => planned_whole(alloc, given, course),
+            Ok(Some(made)) => Ok(Some(made)),
+            Err(error) => if_planned(Err(error)),
+        },
+    }
+}
+
+/// The same by the costs of all known jobs.
+fn planned_whole(
+    alloc: Global,
+    given: &Given<'_>,
+    course: &mut Course<'_>,
+) -> Result<Option<KeptPlan>, AllocError>
+    ensures made { IfOk result (λ made. MatchOption made (PlansNothing course.old)
+        (IsPlanAt given.now course.old)) }
+    ensures rest { IfOk result (IsLentTo course.old course.new) }
+    ensures tickets { course.new.tickets.items ≡ course.old.tickets.items }
+    ensures folders { course.new.folders ≡ course.old.folders }
+{
     let costs = costs_in(alloc, given, course)?;
+    course.touched = Touched::all();
     match &course.known {
         None => Ok(None),
         Some(known) => if_planned(plan_on(alloc, known, costs.as_slice(), &mut course.planned)),
@@ -115,22 +170,28 @@ fn costs_in(alloc: Global, given: &Given<'_>, course: &Course<'_>) -> Result<Vec
     let count = known_in(&course.known).len();
     let mut costs = Vec::with_capacity(alloc, count)?;
     for number in 0..count {
-        costs.push(costs_at(given, course, number))?;
+        costs.push_reserved(costs_at(given, course, number));
     }
     Ok(costs)
 }
 
 /// What the known job of a number costs.
-fn costs_at(given: &Given<'_>, course: &Course<'_>, number: usize) -> Costs
+pub(crate) fn costs_at(given: &Given<'_>, course: &Course<'_>, number: usize) -> Costs
     ensures costs { result ≡ costs_at given.now (past_of course.now) number }
     ensures within { AreWithin result }
 {
-    let standing = Standing {
-        held: !course.jobs.waits(number),
-        archived: given.options.keep && can_load(course, number),
-        row: course.rows.get(number),
-    };
-    costs_of(standing, &given.rates)
+    let held = !course.jobs.waits(number);
+    match course.rows.get(number) {
+        None => costs_without_row(held),
+        Some(row) => {
+            let standing = Standing {
+                held,
+                archived: given.options.keep && can_load(course, number),
+                row: Some(row),
+            };
+            costs_of(standing, &given.rates)
+        }
+    }
 }
 
 /// The marks of the plan in force; none before the first planning point.

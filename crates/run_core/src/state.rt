@@ -1,7 +1,11 @@
 //! Where a run is: what its events have brought about so far, and what it waits for.
 
+ghost use Rattle.std.proofs.Props.{props};
+ghost use Rattle.run_core.specs.inner.Fits.{Fits};
+
 use crate::found_rows::FoundRows;
 use crate::job_states::JobStates;
+use crate::touches::Touched;
 use crate::{Cause, Note, Options, Outcome, PlanNote, Request, RunFault};
 use cwl_value::Value;
 use document_links::Process;
@@ -161,6 +165,12 @@ pub(crate) struct Course<'a> {
     pub notes: Vec<Note>,
     /// The plan in force, of the last planning point.
     pub planned: Option<KeptPlan>,
+    /// The jobs that were touched since it was made.
+    pub touched: Touched,
+    /// What loading costs there, and whether archives are kept.
+    pub rates: Rates,
+    pub keep: bool,
+    ghost fits: { Fits rates keep jobs lost.items rows touched planned } by { Prim.hlevel props },
     /// The cost of each plan, by planning point.
     pub plans: Vec<PlanNote>,
     /// The jobs that are known, once all input files are measured.

@@ -1,6 +1,6 @@
 -- What a run has come to, and what each event makes of it.
-use Rattle.std.specs.Prelude.{Bool, false, Ok, Err, bytes_eq, ◌≡◌, ◌<◌, ◌≤◌, ℕ, ◌+◌, cond, List, [], ◌∷◌, ◌++◌, Option, Some, None, Result, map, option_map, slice_get, unwrap_or}
-use Rattle.std.specs.List.{list_any, remove, zip}
+use Rattle.std.specs.Prelude.{Bool, false, Ok, Err, ◌≡◌, ◌<◌, ◌≤◌, ℕ, ◌+◌, cond, List, [], ◌∷◌, ◌++◌, Option, Some, None, Result, map, option_map, slice_get, unwrap_or}
+use Rattle.std.specs.List.{remove, zip}
 use Rattle.std.specs.Option.{option_map_or}
 use Rattle.job_graph.specs.declared.unfolding.Unfolding.{Unfolding}
 use Rattle.job_rows.specs.declared.refusal.RecordRefusal.{RecordRefusal}
@@ -21,6 +21,7 @@ use Rattle.run_core.specs.declared.state.Course.{Course}
 use Rattle.run_core.specs.declared.state.Flight.{Flight}
 use Rattle.run_core.specs.declared.job_states.JobState.{JobState}
 use Rattle.run_core.specs.declared.state.Kept.{Kept}
+pub use Rattle.run_core.specs.inner.Archives.{is_lost_in}
 use Rattle.run_core.specs.inner.FoundRows.{row_in, rows_after}
 use Rattle.run_core.specs.inner.JobStates.{brought_in, given_up_in, loaded_in, missed_in, staged_in}
 
@@ -151,9 +152,6 @@ with_loss number past = record past {
   jobs = missed_in number past.jobs;
   lost = past.lost ++ key_in past.rows number ∷ [];
 }
-
-abbrev pub is_lost_in : List (List ℕ) → List ℕ → Bool
-is_lost_in lost key = list_any (λ other. bytes_eq other key) lost
 
 -- the record refused to note that the archive of the row of the job at a place is gone
 abbrev pub drop_note : JobPlace → RecordRefusal → Note

@@ -1,5 +1,5 @@
 -- Which files are fetched, and what comes of it.
-use Rattle.std.specs.Prelude.{◌≡◌, ◌&&◌, ◌+◌, ◌<◌, ℕ, Bool, true, false, not, List, Option, Some, None, length, slice_get}
+use Rattle.std.specs.Prelude.{◌≡◌, ◌&&◌, ◌+◌, ◌<◌, ℕ, Bool, true, false, List, Option, Some, None, length, slice_get}
 use Rattle.proc_host.specs.declared.call.HostRequest.{HostRequest}
 use Rattle.staging.specs.declared.found.Found.{Found}
 use Rattle.job_graph.specs.Jobs.{Job}
@@ -13,14 +13,11 @@ use Rattle.run_core.specs.declared.state.Course.{Course}
 use Rattle.run_core.specs.declared.state.Given.{Given}
 use Rattle.run_core.specs.declared.state.Phase.{Phase}
 use Rattle.run_core.specs.declared.state.Turn.{Turn}
-use Rattle.run_core.specs.inner.Course.{is_lost_in, key_in, known_in}
+pub use Rattle.run_core.specs.inner.Archives.{archived_in}
+use Rattle.run_core.specs.inner.Course.{key_in, known_in}
 use Rattle.run_core.specs.inner.FoundRows.{row_in}
 use Rattle.run_core.specs.inner.JobStates.{waits_in}
 use Rattle.run_core.specs.inner.Marks.{is_load, marks_in}
-
-abbrev pub archived_in : List (List ℕ) → Option Row → Bool
-archived_in lost None = false
-archived_in lost (Some row) = row.archived && not (is_lost_in lost row.key)
 
 -- whether the job of a number has an archived row, whose archive was not found to be another
 abbrev pub can_load : Course → ℕ → Bool

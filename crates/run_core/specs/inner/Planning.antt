@@ -58,10 +58,15 @@ IsToldPlan (Ok made) told = told ≡ Some made
 IsToldPlan (Err (UnfoldError.Refused fault)) told = told ≡ None
 IsToldPlan (Err UnfoldError.OutOfMemory) told = ⊥
 
--- the plan in force is taken away where there is a new one, and else all stays
+-- this is the plan in force now, and else all that is kept stays
+pub record IsLeft (planned : Option Planned) (old new : Course) : Type 0 where
+  pub past : past_of new ≡ record (past_of old) { planned = planned }
+  pub known : new.known ≡ old.known
+
+-- the plan in force is taken away where there is a new one, and else it stays
 abbrev pub IsLentTo : Course → Course → Option Planned → Type 0
-IsLentTo old new None = new ≡ old
-IsLentTo old new (Some made) = new ≡ record old { planned = None }
+IsLentTo old new None = IsLeft old.planned old new
+IsLentTo old new (Some made) = IsLeft None old new
 
 -- the plan is made anew where some known job isn't at hand; else the last one stays in force
 pub data Replans (given : Given) (old : Course) : Course → Type 0 where

@@ -1,7 +1,7 @@
 use Rattle.std.proofs.Common.{◌≡◌, ◌∙◌, [], refl, sym, subst}
-use Rattle.run_core.specs.declared.state.Course.{Course}
 use Rattle.run_core.specs.declared.state.Turn.{Turn}
-use Rattle.run_core.specs.inner.Picks.{Picks, drains, ends_so}
+use Rattle.run_core.specs.inner.Picks.{Picks, drains}
+use Rattle.run_core.proofs.Choices.{ends_now}
 use Rattle.run_core.proofs.Lists.{counted, uncounted}
 use Rattle.run_core.proofs.choice.settled.Goals as goal
 
@@ -16,6 +16,5 @@ pub returns : goal.returns
 returns c = λ given.
     let none : c.args.course.now.tickets.items ≡ [] =
     counted c.args.course.now.tickets.items c.args.course.now.tickets.len c.args.course.now.tickets.ok.0 (sym c.is_empty.ensures ∙ c.if-not-is_empty.false) in
-    let left : Course = record c.args.course.now { end = c.replace.new.dest } in
-    subst (λ (turn : Turn). Picks given c.args.course.now turn left) (sym c.ended.ensures)
-    (ends_so c.in-Some.end left (sym c.replace.ensures.value ∙ c.in-Some.is) none none refl (record { notes = refl; planned = refl; plans = refl }))
+    ends_now given c.args.course.now _ c.ended.result c.in-Some.end c.ended.ensures (sym c.replace.ensures.value ∙ c.in-Some.is) none none refl
+    (record { notes = refl; planned = refl; plans = refl })

@@ -1,9 +1,10 @@
 use Rattle.std.specs.Prelude.{MatchBool, MatchOption}
-use Rattle.std.proofs.Common.{◌≡◌, ◌∙◌, Bool, None, Option, ap, refl, subst}
+use Rattle.std.proofs.Common.{◌∙◌, Bool, Option, Some, [], ap, refl, subst, sym}
 use Rattle.plan_keeper.specs.declared.planned.Planned.{Planned}
-use Rattle.run_core.specs.declared.state.Course.{Course}
-use Rattle.run_core.specs.inner.Course.{past_of, with_plan}
+use Rattle.run_core.specs.inner.Course.{Past, with_plan}
+use Rattle.run_core.specs.inner.Fits.{Fits}
 use Rattle.run_core.specs.inner.Planning.{AllThere, IsLentTo, IsPlanAt, PlansNothing, SomeAway, fails, plans, stays}
+use Rattle.run_core.proofs.Fits.{fits_planned}
 use Rattle.run_core.proofs.Lists.{where_ok}
 use Rattle.run_core.proofs.planning.replan.Goals as goal
 
@@ -15,21 +16,28 @@ returns-then-not-some_are_away-clause-replans c =
 
 pub returns-in-None-clause-replans : goal.returns-in-None-clause-replans
 returns-in-None-clause-replans c =
-    let stays : c.planned_anew.new.course ≡ c.args.course.now = subst (IsLentTo c.args.course.now c.planned_anew.new.course) c.in-None.is c.in_ok-planned_anew.ensures.rest in
+    let left = subst (IsLentTo c.args.course.now c.planned_anew.new.course) c.in-None.is c.in_ok-planned_anew.ensures.rest in
     fails c.planned_anew.new.course
     (subst (λ (made : Option Planned). MatchOption made (PlansNothing c.args.course.now) (IsPlanAt c.args.given.now c.args.course.now)) c.in-None.is c.in_ok-planned_anew.ensures.made)
-    (ap past_of stays) (ap (λ (course : Course). course.known) stays)
+    left.past left.known
 
 pub returns-in-Some-clause-replans : goal.returns-in-Some-clause-replans
 returns-in-Some-clause-replans c =
-    let lent : c.planned_anew.new.course ≡ record c.args.course.now { planned = None } =
-    subst (IsLentTo c.args.course.now c.planned_anew.new.course) c.in-Some.is c.in_ok-planned_anew.ensures.rest in
+    let left = subst (IsLentTo c.args.course.now c.planned_anew.new.course) c.in-Some.is c.in_ok-planned_anew.ensures.rest in
     where_ok c.keep.result
     (λ past.
     plans c.in-Some.made c.keep.new.course
     (subst (λ (away : Bool). MatchBool away (SomeAway c.args.course.now) (AllThere c.args.course.now)) c.if-not-some_are_away.false c.some_are_away.ensures)
     (subst (λ (made : Option Planned). MatchOption made (PlansNothing c.args.course.now) (IsPlanAt c.args.given.now c.args.course.now)) c.in-Some.is
     c.in_ok-planned_anew.ensures.made)
-    (past ∙ ap (λ (course : Course). with_plan c.args.given.now.answers c.in-Some.made (past_of course)) lent)
-    (c.keep.ensures.known ∙ ap (λ (course : Course). course.known) lent))
+    (past ∙ ap (with_plan c.args.given.now.answers c.in-Some.made) left.past)
+    (c.keep.ensures.known ∙ left.known))
     c.keep.ensures.past
+
+pub keep-requires : goal.keep-requires
+keep-requires c =
+    let left = subst (IsLentTo c.args.course.now c.planned_anew.new.course) c.in-Some.is c.in_ok-planned_anew.ensures.rest in
+    let fits = fits_planned c.args.given.now c.args.course.now c.in-Some.made
+    (subst (λ (made : Option Planned). MatchOption made (PlansNothing c.args.course.now) (IsPlanAt c.args.given.now c.args.course.now)) c.in-Some.is
+    c.in_ok-planned_anew.ensures.made) in
+    subst (λ (past : Past). Fits c.args.given.now.rates c.args.given.now.options.keep past.jobs past.lost past.rows (Some []) (Some c.in-Some.made)) (sym left.past) fits

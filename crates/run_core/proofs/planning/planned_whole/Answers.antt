@@ -1,5 +1,5 @@
 use Rattle.std.specs.Prelude.{MatchOption, OnOk}
-use Rattle.std.proofs.Common.{◌≡◌, ◌≢◌, List, length, Option, None, Some, Result, Ok, Err, IfOk, IfErr, ap, sym, subst}
+use Rattle.std.proofs.Common.{◌≡◌, ◌≢◌, ◌∙◌, List, length, Option, None, Some, Result, Ok, Err, IfOk, IfErr, ap, refl, sym, subst}
 use Rattle.job_graph.specs.PresentJobGraph.{present_job_graph}
 use Rattle.job_graph.specs.Unfolding.{Blames, fault_of}
 use Rattle.job_graph.specs.declared.costs.Costs.{Costs}
@@ -12,7 +12,7 @@ use Rattle.run_core.specs.declared.state.Given.{Given}
 use Rattle.run_core.specs.inner.Course.{known_in, past_of}
 use Rattle.run_core.specs.inner.Planning.{AreCosts, IsLentTo, IsPlanAt, IsToldPlan, PlansNothing, refused}
 use Rattle.run_core.proofs.Lists.{if_ok}
-use Rattle.run_core.proofs.planning.planned_anew.Goals as goal
+use Rattle.run_core.proofs.planning.planned_whole.Goals as goal
 
 -- by what is told of the plan
 by_told : (given : Given) (course : Course) (kept : Unfolding) → course.known ≡ Some kept → (costs : List Costs) → AreCosts given (past_of course) (length (known_in course.known)) costs →
@@ -26,13 +26,13 @@ by_told given course kept known costs its (Err (UnfoldError.Refused fault)) plan
 by_told given course kept known costs its (Err UnfoldError.OutOfMemory) planned blames made is = absurd is
 
 -- the plan in force is away where there is a new one
-lent_by_told : (old : Course) (last : Option Planned) (told : Result Planned UnfoldError) → OnOk told (last ≡ None) → IfErr told (λ error. error ≢ UnfoldError.OutOfMemory → last ≡ old.planned) →
-    (made : Option Planned) → IsToldPlan told made → IsLentTo old (record old { planned = last }) made
-lent_by_told old last (Ok plan) taken stays made is =
-    subst (IsLentTo old (record old { planned = last })) (sym is) (ap (λ (planned : Option Planned). record old { planned = planned }) taken)
-lent_by_told old last (Err (UnfoldError.Refused fault)) taken stays made is =
-    subst (IsLentTo old (record old { planned = last })) (sym is) (ap (λ (planned : Option Planned). record old { planned = planned }) (stays (λ e. absurd cc)))
-lent_by_told old last (Err UnfoldError.OutOfMemory) taken stays made is = absurd is
+lent_by_told : (old new : Course) (last : Option Planned) (told : Result Planned UnfoldError) → past_of new ≡ record (past_of old) { planned = last } → new.known ≡ old.known →
+    OnOk told (last ≡ None) → IfErr told (λ error. error ≢ UnfoldError.OutOfMemory → last ≡ old.planned) → (made : Option Planned) → IsToldPlan told made → IsLentTo old new made
+lent_by_told old new last (Ok plan) past known taken stays made is =
+    subst (IsLentTo old new) (sym is) (record { past = past ∙ ap (λ (planned : Option Planned). record (past_of old) { planned = planned }) taken; known = known })
+lent_by_told old new last (Err (UnfoldError.Refused fault)) past known taken stays made is =
+    subst (IsLentTo old new) (sym is) (record { past = past ∙ ap (λ (planned : Option Planned). record (past_of old) { planned = planned }) (stays (λ e. absurd cc)); known = known })
+lent_by_told old new last (Err UnfoldError.OutOfMemory) past known taken stays made is = absurd is
 
 pub returns-clause-made : goal.returns-clause-made
 returns-clause-made c =
@@ -45,4 +45,4 @@ returns-clause-made c =
 
 pub returns-clause-rest : goal.returns-clause-rest
 returns-clause-rest c =
-    if_ok c.if_planned.result (lent_by_told c.args.course.now c.plan_on.new.last c.plan_on.result c.plan_on.ensures.taken c.plan_on.ensures.stays) c.if_planned.ensures
+    if_ok c.if_planned.result (lent_by_told c.args.course.now _ c.plan_on.new.last c.plan_on.result refl refl c.plan_on.ensures.taken c.plan_on.ensures.stays) c.if_planned.ensures
