@@ -18,6 +18,16 @@ struct Counts {
     times: u64,
 }
 
+// The microseconds that each of these takes.
+#[derive(Clone, Copy)]
+struct Times {
+    connect: u128,
+    open: u128,
+    find: u128,
+    absent: u128,
+    put: u128,
+}
+
 /// The microseconds that the record of a file with so many rows takes: to open, of which `connect` to open the file as a database,
 /// to find so many keys that are there and as many that are not, and to put as many rows. The file's keys have to be those that are
 /// looked for.
@@ -29,23 +39,8 @@ pub(crate) fn measured(rt: &HostRuntime, row: &Row) -> Result<String, RowFault> 
     };
     let start = now(rt)?;
     match Connection::open(rt, file) {
-        Ok(conn) => connected(rt, conn, counts, start),
+        Ok(conn) => on_connection(rt, conn, counts, start),
         Err(_) => Err(RowFault::BadArgument),
-    }
-}
-
-fn connected<S: Alter + Drop>(
-    rt: &HostRuntime,
-    conn: Connection<S>,
-    counts: Counts,
-    start: Instant,
-) -> Result<String, RowFault> {
-    match micros_since(rt, start) {
-        Ok(connect) => on_connection(rt, conn, counts, start, connect),
-        Err(fault) => {
-            mem::drop(conn);
-            Err(fault)
-        }
     }
 }
 
@@ -54,13 +49,13 @@ fn on_connection<S: Alter + Drop>(
     conn: Connection<S>,
     counts: Counts,
     start: Instant,
-    connect: u128,
 ) -> Result<String, RowFault> {
+    let connect = micros_since(rt, start);
     match opened(rt.alloc(), conn) {
         Ok(mut record) => {
-            let answer = times_text(rt, &mut record, counts, start, connect);
+            let times = times_of(rt, &mut record, counts, start, connect);
             mem::drop(record);
-            answer
+            times_text(rt.alloc(), times?)
         }
         Err((fault, conn)) => {
             mem::drop(conn);
@@ -69,18 +64,32 @@ fn on_connection<S: Alter + Drop>(
     }
 }
 
-fn times_text<S: Alter>(
+fn times_of<S: Alter>(
     rt: &HostRuntime,
     record: &mut JobRecord<S>,
     counts: Counts,
     start: Instant,
-    connect: u128,
-) -> Result<String, RowFault> {
+    connect: Result<u128, RowFault>,
+) -> Result<Times, RowFault> {
     let open = micros_since(rt, start)?;
-    let find = find_all(rt, record, counts, "", counts.times)?;
-    let absent = find_all(rt, record, counts, "x", 0)?;
-    let put = put_all(rt, record, counts)?;
-    Ok(format!(in rt.alloc();
+    Ok(Times {
+        connect: connect?,
+        open,
+        find: find_all(rt, record, counts, "", counts.times)?,
+        absent: find_all(rt, record, counts, "x", 0)?,
+        put: put_all(rt, record, counts)?,
+    })
+}
+
+fn times_text(alloc: Global, times: Times) -> Result<String, RowFault> {
+    let Times {
+        connect,
+        open,
+        find,
+        absent,
+        put,
+    } = times;
+    Ok(format!(in alloc;
         "{{\"connect\":{connect},\"open\":{open},\"find\":{find},\"absent\":{absent},\"put\":{put}}}"
     )?)
 }
@@ -158,7 +167,12 @@ fn put_all<S: Alter>(
 
 fn put<S: Alter>(alloc: Global, record: &mut JobRecord<S>, at: u64) -> Result<(), RowFault> {
     let row = row_of(alloc, at)?;
-    record.put(&row).map_err(row_fault)
+    let done = record.put(&row);
+    mem::drop(row);
+    match done {
+        Ok(()) => Ok(()),
+        Err(fault) => Err(row_fault(fault)),
+    }
 }
 
 fn row_of(alloc: Global, at: u64) -> Result<RecordRow, RowFault> {

@@ -1,7 +1,7 @@
 //! Commands on a record.
 
 use crate::asks::Ask;
-use crate::rows::{put_comma, row_in};
+use crate::rows::{put_comma, row_in, text_of};
 use crate::store::{Disks, Store};
 use row_io::{AnswerText, Row, RowFault};
 use serde_json::Value as Json;
@@ -104,8 +104,4 @@ fn keyed(command: &Json) -> Option<Ask<'_>> {
         Some(key) => Some(Ask::Forget(key)),
         None => None,
     }
-}
-
-fn text_of<'a>(command: &'a Json, name: &str) -> Option<&'a str> {
-    command.get(name)?.as_str()
 }

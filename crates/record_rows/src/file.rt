@@ -22,10 +22,16 @@ pub(crate) fn shown(rt: &HostRuntime, row: &Row) -> Result<String, RowFault> {
         return told(rt, row, path, &[]);
     }
     let bytes = made(alloc, row)?;
-    if fs::write(rt, FILE, bytes.as_slice()).is_err() || !is_ready(rt, row) {
+    let text = told_of(rt, row, bytes.as_slice());
+    mem::drop(bytes);
+    text
+}
+
+fn told_of(rt: &HostRuntime, row: &Row, bytes: &[u8]) -> Result<String, RowFault> {
+    if fs::write(rt, FILE, bytes).is_err() || !is_ready(rt, row) {
         return Err(RowFault::BadArgument);
     }
-    let text = told(rt, row, FILE, bytes.as_slice());
+    let text = told(rt, row, FILE, bytes);
     let _removed = fs::remove_file(rt, FILE);
     let _removed = fs::remove_file(rt, LOG);
     text
@@ -53,7 +59,9 @@ fn made(alloc: Global, row: &Row) -> Result<Vec<u8>, RowFault> {
 }
 
 fn held_by(alloc: Global, disks: Disks) -> Result<Vec<u8>, RowFault> {
-    Ok(disks.bytes().to_vec(alloc)?)
+    let bytes = disks.bytes().to_vec(alloc);
+    mem::drop(disks);
+    Ok(bytes?)
 }
 
 // A record after commands, or a database that SQL made.
@@ -83,6 +91,8 @@ fn told(rt: &HostRuntime, row: &Row, path: &str, bytes: &[u8]) -> Result<String,
     text.put(",\"same\":");
     text.put_flag(is_same(rt, path, bytes));
     text.put("}");
+    mem::drop(out);
+    mem::drop(err);
     text.finish()
 }
 

@@ -6,6 +6,7 @@ use crate::store::{Disks, Store};
 use row_io::{AnswerText, Row, RowFault};
 use serde_json::Value as Json;
 use std::alloc::Global;
+use std::mem;
 
 // Numbers go in the order of multiples of this one, so that they lie far apart. No count here has it as a factor.
 const STRIDE: u64 = 7_919;
@@ -19,34 +20,39 @@ pub(crate) fn number_at(place: u64, count: u64) -> u64 {
 /// it lists just these.
 pub(crate) fn filled(alloc: Global, row: &Row) -> Result<String, RowFault> {
     let count = row.natural("rows")?;
-    let mut answers = AnswerText::new(alloc);
-    let found = listed(alloc, count, &mut answers)?;
-    let wanted = others_text(alloc, count)?;
     let left = count - count.div_ceil(3);
-    let same = found.as_str() == wanted.as_str();
+    let same = is_listed(alloc, count)?;
     Ok(format!(in alloc; "[{left},{same}]")?)
 }
 
-// What the record lists after all that.
-fn listed(alloc: Global, count: u64, answers: &mut AnswerText) -> Result<String, RowFault> {
+// Whether the record lists just these after all that.
+fn is_listed(alloc: Global, count: u64) -> Result<bool, RowFault> {
+    let found = listed(alloc, count)?;
+    let wanted = others_text(alloc, count)?;
+    Ok(found.as_str() == wanted.as_str())
+}
+
+fn listed(alloc: Global, count: u64) -> Result<String, RowFault> {
     let mut found = AnswerText::new(alloc);
     match Disks::fresh(alloc).open(alloc) {
-        Ok(store) => put_held(alloc, changed(alloc, store, count, answers), &mut found),
+        Ok(store) => put_held(alloc, changed(alloc, store, count), &mut found),
         Err((_fault, _disks)) => found.put("?"),
     }
     found.finish()
 }
 
-fn changed(alloc: Global, store: Store, count: u64, answers: &mut AnswerText) -> Disks {
+fn changed(alloc: Global, store: Store, count: u64) -> Disks {
     let mut store = store;
+    let mut answers = AnswerText::new(alloc);
     for at in 0..count {
-        put_at(alloc, &mut store, number_at(at, count), answers);
+        put_at(alloc, &mut store, number_at(at, count), &mut answers);
     }
     for at in 0..count {
         if at % 3 == 0 {
-            forget_at(alloc, &mut store, at, answers);
+            forget_at(alloc, &mut store, at, &mut answers);
         }
     }
+    mem::drop(answers);
     store.close()
 }
 

@@ -3,6 +3,7 @@
 //! A refusal is answered by its code. What an answer lacks stands in it as `?`.
 #![tactic(auto)]
 
+mod any_disk;
 mod asks;
 mod bench;
 mod commands;

@@ -18,35 +18,42 @@ pub(crate) fn answers(alloc: Global, row: &Row) -> Result<String, RowFault> {
     out.put("[");
     for (at, command) in commands.iter().enumerate() {
         put_comma(&mut out, at);
-        run(alloc, &mut record, command, &mut out)?;
+        run(alloc, &mut record, command, &mut out);
     }
+    mem::drop(record);
     out.put("]");
     out.finish()
 }
 
-fn run(
-    alloc: Global,
-    record: &mut MemoryRecord,
-    command: &Json,
-    out: &mut AnswerText,
-) -> Result<(), RowFault> {
+fn run(alloc: Global, record: &mut MemoryRecord, command: &Json, out: &mut AnswerText) {
     if let Some(json) = command.get("put") {
         let row = row_in(alloc, json);
         if let Some(row) = &row {
             put_outcome(out, record.put(row));
         }
         mem::drop(row);
-        return Ok(());
+        return;
     }
     match ask_in(command) {
-        Some(Ask::Find(key)) => put_found(alloc, out, record.find(&Text::from_text(alloc, key)?)),
-        Some(Ask::DropArchive(key)) => {
-            put_outcome(out, record.drop_archive(&Text::from_text(alloc, key)?))
-        }
+        Some(Ask::Find(key)) => find(alloc, record, key, out),
+        Some(Ask::DropArchive(key)) => drop_archive(alloc, record, key, out),
         Some(Ask::Log) => put_log(out, record.log()),
         _ => out.put("?"),
     }
-    Ok(())
+}
+
+fn find(alloc: Global, record: &mut MemoryRecord, key: &str, out: &mut AnswerText) {
+    match Text::from_text(alloc, key) {
+        Ok(key) => put_found(alloc, out, record.find(&key)),
+        Err(_) => out.fail(RowFault::OutOfMemory),
+    }
+}
+
+fn drop_archive(alloc: Global, record: &mut MemoryRecord, key: &str, out: &mut AnswerText) {
+    match Text::from_text(alloc, key) {
+        Ok(key) => put_outcome(out, record.drop_archive(&key)),
+        Err(_) => out.fail(RowFault::OutOfMemory),
+    }
 }
 
 fn put_outcome(out: &mut AnswerText, done: Result<(), RecordError>) {

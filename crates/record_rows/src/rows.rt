@@ -1,12 +1,13 @@
 //! Rows of the record, from JSON and back.
 
-use cwl_value::{Value, canonical_text, copy_fields, from_json};
+use cwl_value::{Value, ValueRefusal, canonical_text, copy_fields, from_json};
 use job_rows::Row;
 use plain_data::{Items, Keyed, Text};
 use row_io::{AnswerText, RowFault};
 use serde_json::Value as Json;
 use staging::Found;
 use std::alloc::{AllocError, Global};
+use std::mem;
 
 // The members of a row's object.
 #[derive(Clone, Copy)]
@@ -20,12 +21,29 @@ struct Wanted<'a> {
 
 fn members_of(json: &Json) -> Option<Wanted<'_>> {
     Some(Wanted {
-        key: json.get("key")?.as_str()?,
+        key: text_of(json, "key")?,
         outputs: json.get("outputs")?,
-        files: json.get("files")?.as_array()?.as_slice(),
-        cost: json.get("cost")?.as_u64()?,
-        archived: json.get("archived")?.as_bool()?,
+        files: list_of(json, "files")?,
+        cost: number_of(json, "cost")?,
+        archived: flag_of(json, "archived")?,
     })
+}
+
+/// The text of this name in an object.
+pub(crate) fn text_of<'a>(json: &'a Json, name: &str) -> Option<&'a str> {
+    json.get(name)?.as_str()
+}
+
+fn list_of<'a>(json: &'a Json, name: &str) -> Option<&'a [Json]> {
+    Some(json.get(name)?.as_array()?.as_slice())
+}
+
+fn number_of(json: &Json, name: &str) -> Option<u64> {
+    json.get(name)?.as_u64()
+}
+
+fn flag_of(json: &Json, name: &str) -> Option<bool> {
+    json.get(name)?.as_bool()
 }
 
 /// The row that an object tells of, if it tells of one.
@@ -37,7 +55,7 @@ fn made(alloc: Global, wanted: &Wanted<'_>) -> Result<Row, RowFault> {
     let key = Text::from_text(alloc, wanted.key)?;
     let files = files_of(alloc, wanted.files)?;
     Ok(Row {
-        outputs: outputs_of(alloc, wanted.outputs)?,
+        outputs: fields_of(from_json(alloc, wanted.outputs))?,
         key,
         files,
         cost: wanted.cost,
@@ -45,10 +63,14 @@ fn made(alloc: Global, wanted: &Wanted<'_>) -> Result<Row, RowFault> {
     })
 }
 
-fn outputs_of(alloc: Global, json: &Json) -> Result<Keyed<Value>, RowFault> {
-    match from_json(alloc, json) {
-        Ok(Value::Fields(outputs)) => Ok(outputs),
-        _ => Err(RowFault::BadArgument),
+/// The members of an object. Any other value is a bad argument.
+pub(crate) fn fields_of(value: Result<Value, ValueRefusal>) -> Result<Keyed<Value>, RowFault> {
+    match value {
+        Ok(Value::Fields(fields)) => Ok(fields),
+        other => {
+            mem::drop(other);
+            Err(RowFault::BadArgument)
+        }
     }
 }
 
@@ -135,8 +157,14 @@ fn put_outputs(alloc: Global, out: &mut AnswerText, outputs: &Keyed<Value>) {
 }
 
 fn outputs_text(alloc: Global, outputs: &Keyed<Value>) -> Result<Text, AllocError> {
-    let object = Value::Fields(copy_fields(alloc, outputs)?);
-    canonical_text(alloc, &object)
+    let fields = copy_fields(alloc, outputs)?;
+    value_text(alloc, Value::Fields(fields))
+}
+
+fn value_text(alloc: Global, value: Value) -> Result<Text, AllocError> {
+    let text = canonical_text(alloc, &value);
+    mem::drop(value);
+    text
 }
 
 fn put_files(out: &mut AnswerText, files: &[Found]) {

@@ -1,18 +1,17 @@
 //! Records over two files in memory, each behind a fuse that stops it at a call. Only here, and where `bench.rt` opens a
-//! file, are `sqlite` and `job_record` called at a store that is named, since each such call takes the check long.
+//! file, is anything called at a store that is named, since each such call takes the check long: once in a function.
 
-use crate::asks::{Ask, asked, dropped, found, listed, opened, put, ran};
+use crate::any_disk::{begun, closed, run_on, stopped};
+use crate::asks::{Ask, asked, dropped, found, listed, put};
 use job_record::{JobRecord, RecordFault};
 use job_rows::{Entry, Record, RecordError, Row as RecordRow};
 use plain_data::{Items, Text};
 use row_io::AnswerText;
-use sqlite::{Connection, Error, ErrorCode, FileStore, Files, Options};
+use sqlite::{FileStore, Files};
 use sqlite_disk::{Crash, Disk, Fuse, Memory};
 use std::alloc::Global;
 
 type File = Fuse<Memory>;
-
-type Conn = Connection<FileStore<File>>;
 
 /// The two files.
 pub struct Disks {
@@ -120,21 +119,17 @@ impl Disks {
     /// The record in the files, or the refusal with the files again.
     pub fn open(self, alloc: Global) -> Result<Store, (RecordFault, Disks)> {
         let Disks { files } = self;
-        match connected(alloc, files) {
-            Ok(conn) => recorded(alloc, conn),
-            Err(left) => Err(left),
+        match begun(alloc, files) {
+            Ok(record) => Ok(Store { record }),
+            Err((fault, files)) => Err((fault, Disks { files })),
         }
     }
 
     /// Runs statements, or shows the first column of each row of a query.
     pub(crate) fn run(self, alloc: Global, sql: &str, out: &mut AnswerText) -> Disks {
         let Disks { files } = self;
-        match connected(alloc, files) {
-            Ok(mut conn) => {
-                ran(&mut conn, sql, out);
-                closed(conn)
-            }
-            Err((_fault, left)) => left,
+        Disks {
+            files: run_on(alloc, files, sql, out),
         }
     }
 }
@@ -158,13 +153,17 @@ impl Store {
     /// The files of a record that is closed in good order.
     pub fn close(self) -> Disks {
         let Store { record } = self;
-        closed(record.into_connection())
+        Disks {
+            files: closed(record),
+        }
     }
 
     /// The files of a record that is let go.
     pub fn stop(self) -> Disks {
         let Store { record } = self;
-        stopped(record.into_connection())
+        Disks {
+            files: stopped(record),
+        }
     }
 }
 
@@ -189,44 +188,6 @@ impl Record for Store {
     }
 }
 
-fn connected(alloc: Global, files: Files<File>) -> Result<Conn, (RecordFault, Disks)> {
-    if !files.may_be_used() {
-        let fault = Error::SqliteFailure(ErrorCode::SystemIoFailure);
-        return Err((RecordFault::Store(fault), Disks { files }));
-    }
-    match Connection::open_files(alloc, files, options()) {
-        Ok(conn) => Ok(conn),
-        Err((error, left)) => Err((
-            RecordFault::Store(error),
-            Disks {
-                files: left.into_files(),
-            },
-        )),
-    }
-}
-
-fn recorded(alloc: Global, conn: Conn) -> Result<Store, (RecordFault, Disks)> {
-    match opened(alloc, conn) {
-        Ok(record) => Ok(Store { record }),
-        Err((fault, conn)) => Err((fault, stopped(conn))),
-    }
-}
-
-fn stopped(conn: Conn) -> Disks {
-    Disks {
-        files: conn.into_store().close(),
-    }
-}
-
-fn closed(conn: Conn) -> Disks {
-    match conn.close_files() {
-        Ok(files) => Disks { files },
-        Err((_error, store)) => Disks {
-            files: store.close(),
-        },
-    }
-}
-
 // A file with these bytes, all of them on the disk.
 fn written(alloc: Global, bytes: &[u8]) -> Option<Memory> {
     let mut file = Memory::new(alloc);
@@ -238,13 +199,4 @@ fn written(alloc: Global, bytes: &[u8]) -> Option<Memory> {
 
 fn has_stopped(file: &mut File) -> bool {
     !file.may_be_used() || file.len().is_err()
-}
-
-// The log is copied into the database often, since each commit copies the whole of a file in memory.
-fn options() -> Options {
-    let mut options = Options::new(7);
-    options.checkpoint_frames = 64;
-    options.cache_pages = 16;
-    options.spill_pages = 64;
-    options
 }
