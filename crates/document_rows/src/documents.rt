@@ -1,6 +1,7 @@
 //! Reads the documents of rows, and answers `ok` or what is wrong with them first.
 use document_table::{DocumentError, DocumentFault, read_document};
 use row_io::{Row, RowFault, json_text};
+use serde_json::Value;
 use std::alloc::{AllocError, Global};
 
 /// What is read of the row's `document`, which is JSON, or of its `text`, which has any bytes.
@@ -30,9 +31,14 @@ fn nested_list(alloc: Global, levels: u64) -> Result<String, AllocError> {
 }
 
 fn answer(alloc: Global, text: &str) -> Result<String, RowFault> {
-    match read_document(alloc, text.as_bytes()) {
+    let found = read_document(alloc, text.as_bytes());
+    found_text(alloc, &found)
+}
+
+fn found_text(alloc: Global, found: &Result<Value, DocumentError>) -> Result<String, RowFault> {
+    match found {
         Ok(_) => Ok(String::from_str(alloc, "ok")?),
-        Err(DocumentError::Refused(fault)) => Ok(told(alloc, &fault)?),
+        Err(DocumentError::Refused(fault)) => Ok(told(alloc, fault)?),
         Err(DocumentError::OutOfMemory) => Err(RowFault::OutOfMemory),
     }
 }

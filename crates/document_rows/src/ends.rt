@@ -29,14 +29,33 @@ pub(crate) fn place_of(
 /// The outputs that stand beside the number; where the number stands alone, the output `o` is a File that has it in its name.
 pub(crate) fn outputs_of(alloc: Global, end: &Json, number: u64) -> Result<Keyed<Value>, RowFault> {
     let mut outputs = Keyed::new(alloc);
-    if end.is_array() {
-        put_output(alloc, &mut outputs, "o", end.get(1))?;
-        put_output(alloc, &mut outputs, "p", end.get(2))?;
-    } else {
-        let name = format!(in alloc; "f{number}")?;
-        add(alloc, &mut outputs, "o", file(alloc, name.as_str())?)?;
-    }
+    put_outputs(alloc, &mut outputs, end, number)?;
     Ok(outputs)
+}
+
+fn put_outputs(
+    alloc: Global,
+    outputs: &mut Keyed<Value>,
+    end: &Json,
+    number: u64,
+) -> Result<(), RowFault> {
+    if end.is_array() {
+        put_output(alloc, outputs, "o", end.get(1))?;
+        put_output(alloc, outputs, "p", end.get(2))
+    } else {
+        put_numbered(alloc, outputs, number)
+    }
+}
+
+fn put_numbered(alloc: Global, outputs: &mut Keyed<Value>, number: u64) -> Result<(), RowFault> {
+    let name = Text::from_text(alloc, "o")?;
+    let value = numbered_file(alloc, number)?;
+    Ok(add(outputs, name, value)?)
+}
+
+fn numbered_file(alloc: Global, number: u64) -> Result<Value, AllocError> {
+    let name = format!(in alloc; "f{number}")?;
+    file(alloc, name.as_str())
 }
 
 fn put_output(
@@ -47,17 +66,24 @@ fn put_output(
 ) -> Result<(), RowFault> {
     match json {
         None => Ok(()),
-        Some(json) => Ok(add(alloc, outputs, name, output(alloc, json)?)?),
+        Some(json) => put_value(alloc, outputs, name, json),
     }
 }
 
-fn add(
+fn put_value(
     alloc: Global,
     outputs: &mut Keyed<Value>,
     name: &str,
-    value: Value,
-) -> Result<(), AllocError> {
-    drop(outputs.insert(Text::from_text(alloc, name)?, value)?);
+    json: &Json,
+) -> Result<(), RowFault> {
+    let name = Text::from_text(alloc, name)?;
+    let value = output(alloc, json)?;
+    Ok(add(outputs, name, value)?)
+}
+
+/// Adds the value by its name.
+pub(crate) fn add(outputs: &mut Keyed<Value>, name: Text, value: Value) -> Result<(), AllocError> {
+    drop(outputs.insert(name, value)?);
     Ok(())
 }
 

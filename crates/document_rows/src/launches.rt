@@ -1,11 +1,11 @@
 //! Builds the commands of rows, and writes their launches as JSON.
 use crate::arguments::fields_of;
-use crate::process::unlinked;
+use crate::process::{put_texts, unlinked};
+use crate::values::put_text_or_null;
 use command_line::{BuildError, BuildFault, Launch, Runtime, Variable, build};
 use cwl_process::{Process, Tool};
-use cwl_value::Value;
 use document_table::DocumentError;
-use plain_data::{Keyed, Text};
+use plain_data::Text;
 use row_io::{AnswerText, Row, RowFault};
 use std::alloc::{AllocError, Global};
 use std::mem;
@@ -24,8 +24,20 @@ pub(crate) fn answer(alloc: Global, row: &Row, copy: bool) -> Result<String, Row
 }
 
 fn launch_of(alloc: Global, tool: &Tool, row: &Row, copy: bool) -> Result<String, RowFault> {
+    let runtime = runtime(alloc, row.text("outdir").unwrap_or("/w/j1/out"))?;
+    launch_in(alloc, tool, row, &runtime, copy)
+}
+
+fn launch_in(
+    alloc: Global,
+    tool: &Tool,
+    row: &Row,
+    runtime: &Runtime,
+    copy: bool,
+) -> Result<String, RowFault> {
     let inputs = fields_of(alloc, row.json("inputs")?)?;
-    let outcome = launched(alloc, tool, &inputs, row)?;
+    let outcome = build(alloc, tool, &inputs, runtime);
+    mem::drop(inputs);
     outcome_text(alloc, &outcome, copy)
 }
 
@@ -41,16 +53,6 @@ fn outcome_text(
     }
 }
 
-fn launched(
-    alloc: Global,
-    tool: &Tool,
-    inputs: &Keyed<Value>,
-    row: &Row,
-) -> Result<Result<Launch, BuildError>, RowFault> {
-    let runtime = runtime(alloc, row.text("outdir").unwrap_or("/w/j1/out"))?;
-    Ok(build(alloc, tool, inputs, &runtime))
-}
-
 fn runtime(alloc: Global, outdir: &str) -> Result<Runtime, AllocError> {
     Ok(Runtime {
         outdir: Text::from_text(alloc, outdir)?,
@@ -62,16 +64,15 @@ fn runtime(alloc: Global, outdir: &str) -> Result<Runtime, AllocError> {
 fn not_built(alloc: Global, error: &BuildError) -> Result<String, RowFault> {
     match error {
         BuildError::OutOfMemory => Err(RowFault::OutOfMemory),
-        BuildError::Refused(fault) => match fault {
-            BuildFault::Reference(reference) => coded(alloc, fault.code(), reference.code()),
-            BuildFault::NoValueFrom => code(alloc, fault.code()),
-            BuildFault::NotText(place) => coded(
-                alloc,
-                fault.code(),
-                place.to_string(alloc)?.as_str(),
-            ),
-            BuildFault::EmptyCommand => code(alloc, fault.code()),
-        },
+        BuildError::Refused(fault) => refused(alloc, fault),
+    }
+}
+
+fn refused(alloc: Global, fault: &BuildFault) -> Result<String, RowFault> {
+    match fault {
+        BuildFault::Reference(reference) => coded(alloc, fault.code(), reference.code()),
+        BuildFault::NotText(place) => Ok(format!(in alloc; "{}({place})", fault.code())?),
+        BuildFault::NoValueFrom | BuildFault::EmptyCommand => code(alloc, fault.code()),
     }
 }
 
@@ -116,24 +117,6 @@ fn put_variable(out: &mut AnswerText, variable: &Variable) {
     out.put_quoted(variable.name.as_str());
     out.put(",");
     out.put_quoted(variable.text.as_str());
-    out.put("]");
-}
-
-/// A text in its quotes, or `null`.
-fn put_text_or_null(out: &mut AnswerText, text: &Option<Text>) {
-    match text {
-        Some(text) => out.put_quoted(text.as_str()),
-        None => out.put("null"),
-    }
-}
-
-/// A list of texts.
-fn put_texts(out: &mut AnswerText, texts: &[Text]) {
-    out.put("[");
-    for text in texts {
-        out.put_comma();
-        out.put_quoted(text.as_str());
-    }
     out.put("]");
 }
 

@@ -2,12 +2,12 @@
 use crate::documents::told;
 use crate::process::{put_asked, put_key, put_texts};
 use crate::values::put_default;
-use cwl_process::Tool;
+use cwl_process::{StepInput, Tool, ToolInput, WorkflowInput};
 use document_links::{
     Docs, Document, LinkError, LinkFault, Process, Step, Workflow, needed_docs, read_process,
 };
 use plain_data::{Items, Keyed, Text};
-use row_io::{Row, RowFault, json_text};
+use row_io::{AnswerText, Row, RowFault, json_text};
 use serde_json::Value;
 use std::alloc::Global;
 use std::mem;
@@ -32,8 +32,14 @@ pub(crate) fn process_of(alloc: Global, row: &Row) -> Result<Process, RowFault> 
     mem::drop(docs);
     match found? {
         Ok(process) => Ok(process),
-        Err(LinkError::Refused(_)) => Err(RowFault::BadArgument),
-        Err(LinkError::OutOfMemory) => Err(RowFault::OutOfMemory),
+        Err(error) => Err(fault_of(&error)),
+    }
+}
+
+fn fault_of(error: &LinkError) -> RowFault {
+    match error {
+        LinkError::Refused(_) => RowFault::BadArgument,
+        LinkError::OutOfMemory => RowFault::OutOfMemory,
     }
 }
 
@@ -48,9 +54,13 @@ pub(crate) fn needed(alloc: Global, row: &Row) -> Result<String, RowFault> {
 type Urls = Result<Items<Text>, LinkError>;
 
 fn urls(alloc: Global, row: &Row) -> Result<Urls, RowFault> {
-    let document = document(alloc, row.json("document")?)?;
     let base = base_url(alloc, row.text("base")?)?;
-    Ok(needed_docs(alloc, &document, &base))
+    urls_at(alloc, row, &base)
+}
+
+fn urls_at(alloc: Global, row: &Row, base: &Url) -> Result<Urls, RowFault> {
+    let document = document(alloc, row.json("document")?)?;
+    Ok(needed_docs(alloc, &document, base))
 }
 
 fn urls_answer(alloc: Global, urls: &Urls) -> Result<String, RowFault> {
@@ -62,17 +72,21 @@ fn urls_answer(alloc: Global, urls: &Urls) -> Result<String, RowFault> {
 }
 
 fn urls_text(alloc: Global, urls: &[Text]) -> Result<String, RowFault> {
-    let mut out = String::new(alloc);
-    put_texts(alloc, &mut out, urls)?;
-    Ok(out)
+    let mut out = AnswerText::new(alloc);
+    put_texts(&mut out, urls);
+    out.finish()
 }
 
 type Found = Result<Process, LinkError>;
 
 fn found(alloc: Global, row: &Row, base: &str, docs: &Docs) -> Result<Found, RowFault> {
-    let document = document(alloc, row.json("document")?)?;
     let base = base_url(alloc, base)?;
-    Ok(read_process(alloc, &document, &base, docs))
+    found_at(alloc, row, &base, docs)
+}
+
+fn found_at(alloc: Global, row: &Row, base: &Url, docs: &Docs) -> Result<Found, RowFault> {
+    let document = document(alloc, row.json("document")?)?;
+    Ok(read_process(alloc, &document, base, docs))
 }
 
 fn answer(alloc: Global, found: &Found) -> Result<String, RowFault> {
@@ -84,9 +98,9 @@ fn answer(alloc: Global, found: &Found) -> Result<String, RowFault> {
 }
 
 fn process_text(alloc: Global, process: &Process) -> Result<String, RowFault> {
-    let mut out = String::new(alloc);
-    put_process(alloc, &mut out, process)?;
-    Ok(out)
+    let mut out = AnswerText::new(alloc);
+    put_process(alloc, &mut out, process);
+    out.finish()
 }
 
 fn base_url(alloc: Global, text: &str) -> Result<Url, RowFault> {
@@ -108,93 +122,107 @@ fn fault_told(alloc: Global, fault: &LinkFault) -> Result<String, RowFault> {
 /// The documents of the row, by their URLs.
 fn docs(alloc: Global, row: &Row) -> Result<Docs, RowFault> {
     let mut docs = Keyed::new(alloc);
-    if let Some(Value::Object(members)) = row.find("docs") {
-        for (url, json) in members.iter() {
-            let name = Text::from_text(alloc, url.as_str())?;
-            let _old = docs.insert(name, document(alloc, json)?)?;
-        }
-    }
+    put_docs(alloc, &mut docs, row)?;
     Ok(Docs::of(alloc, docs)?)
 }
 
+fn put_docs(alloc: Global, docs: &mut Keyed<Document>, row: &Row) -> Result<(), RowFault> {
+    if let Some(Value::Object(members)) = row.find("docs") {
+        for (url, json) in members.iter() {
+            put_document(alloc, docs, url.as_str(), json)?;
+        }
+    }
+    Ok(())
+}
+
+fn put_document(
+    alloc: Global,
+    docs: &mut Keyed<Document>,
+    url: &str,
+    json: &Value,
+) -> Result<(), RowFault> {
+    let name = Text::from_text(alloc, url)?;
+    let document = document(alloc, json)?;
+    drop(docs.insert(name, document)?);
+    Ok(())
+}
+
 fn document(alloc: Global, json: &Value) -> Result<Document, RowFault> {
-    let text = json_text(alloc, json)?;
-    let bytes = text.as_bytes().to_vec(alloc)?;
+    let bytes = bytes(alloc, json)?;
     Ok(Document::read(alloc, Items::from_vec(bytes))?)
 }
 
+fn bytes(alloc: Global, json: &Value) -> Result<Vec<u8>, RowFault> {
+    let text = json_text(alloc, json)?;
+    Ok(text.as_bytes().to_vec(alloc)?)
+}
+
 #[cycle(linked)]
-fn put_process(alloc: Global, out: &mut String, process: &Process) -> Result<(), RowFault> {
+fn put_process(alloc: Global, out: &mut AnswerText, process: &Process) {
     match process {
-        Process::Tool(tool) => {
-            out.push_str("{\"baseCommand\":")?;
-            put_texts(alloc, out, tool.base_command.as_slice())?;
-            put_asked(alloc, out, &tool.asked)?;
-            put_tool_defaults(alloc, out, tool)?;
-            Ok(out.push_str("}")?)
-        }
+        Process::Tool(tool) => put_tool(alloc, out, tool),
         Process::Workflow(workflow) => put_workflow(alloc, out, workflow),
     }
 }
 
-fn put_tool_defaults(alloc: Global, out: &mut String, tool: &Tool) -> Result<(), RowFault> {
-    if tool.inputs.is_empty() {
-        return Ok(());
+fn put_tool(alloc: Global, out: &mut AnswerText, tool: &Tool) {
+    out.put("{\"baseCommand\":");
+    put_texts(out, tool.base_command.as_slice());
+    put_asked(out, &tool.asked);
+    put_tool_defaults(alloc, out, tool.inputs.as_slice());
+    out.put("}");
+}
+
+fn put_tool_defaults(alloc: Global, out: &mut AnswerText, inputs: &[(Text, ToolInput)]) {
+    if inputs.is_empty() {
+        return;
     }
-    out.push_str(",\"defaults\":{")?;
-    let mut gap = "";
-    for entry in tool.inputs.as_slice() {
-        gap = put_default(alloc, out, gap, &entry.0, &entry.1.default)?;
+    out.put(",\"defaults\":{");
+    for entry in inputs {
+        put_default(alloc, out, &entry.0, &entry.1.default);
     }
-    Ok(out.push_str("}")?)
+    out.put("}");
 }
 
 /// The steps, and before them the inputs, if there are any.
 #[cycle(linked)]
-fn put_workflow(alloc: Global, out: &mut String, workflow: &Workflow) -> Result<(), RowFault> {
-    out.push_str("{")?;
-    put_workflow_defaults(alloc, out, workflow)?;
-    let mut gap = if workflow.inputs.is_empty() { "" } else { "," };
+fn put_workflow(alloc: Global, out: &mut AnswerText, workflow: &Workflow) {
+    out.put("{");
+    put_workflow_defaults(alloc, out, workflow.inputs.as_slice());
     for entry in workflow.steps.as_slice() {
-        put_key(alloc, out, gap, entry.0.as_str())?;
-        put_step(alloc, out, &entry.1)?;
-        gap = ",";
+        put_key(out, entry.0.as_str());
+        put_step(alloc, out, &entry.1);
     }
-    Ok(out.push_str("}")?)
+    out.put("}");
 }
 
-fn put_workflow_defaults(
-    alloc: Global,
-    out: &mut String,
-    workflow: &Workflow,
-) -> Result<(), RowFault> {
-    if workflow.inputs.is_empty() {
-        return Ok(());
+fn put_workflow_defaults(alloc: Global, out: &mut AnswerText, inputs: &[(Text, WorkflowInput)]) {
+    if inputs.is_empty() {
+        return;
     }
-    out.push_str("\"/defaults\":{")?;
-    let mut gap = "";
-    for entry in workflow.inputs.as_slice() {
-        gap = put_default(alloc, out, gap, &entry.0, &entry.1.default)?;
+    out.put("\"/defaults\":{");
+    for entry in inputs {
+        put_default(alloc, out, &entry.0, &entry.1.default);
     }
-    Ok(out.push_str("}")?)
+    out.put("}");
 }
 
 /// The process of the step, in a list after the step's inputs, if there are any.
 #[cycle(linked)]
-fn put_step(alloc: Global, out: &mut String, step: &Step) -> Result<(), RowFault> {
+fn put_step(alloc: Global, out: &mut AnswerText, step: &Step) {
     if step.inputs.is_empty() {
-        return put_process(alloc, out, &step.process);
+        put_process(alloc, out, &step.process);
+    } else {
+        put_step_defaults(alloc, out, step.inputs.as_slice());
+        put_process(alloc, out, &step.process);
+        out.put("]");
     }
-    put_step_defaults(alloc, out, step)?;
-    put_process(alloc, out, &step.process)?;
-    Ok(out.push_str("]")?)
 }
 
-fn put_step_defaults(alloc: Global, out: &mut String, step: &Step) -> Result<(), RowFault> {
-    out.push_str("[{")?;
-    let mut gap = "";
-    for entry in step.inputs.as_slice() {
-        gap = put_default(alloc, out, gap, &entry.0, &entry.1.default)?;
+fn put_step_defaults(alloc: Global, out: &mut AnswerText, inputs: &[(Text, StepInput)]) {
+    out.put("[{");
+    for entry in inputs {
+        put_default(alloc, out, &entry.0, &entry.1.default);
     }
-    Ok(out.push_str("},")?)
+    out.put("},");
 }

@@ -20,28 +20,32 @@ use std::alloc::{AllocError, Global};
 /// Of each of the row's `orders` what is known at once, and what each end adds.
 pub(crate) fn answer(alloc: Global, row: &Row) -> Result<String, RowFault> {
     let process = process_of(alloc, row)?;
-    let mut out = AnswerText::new(alloc);
-    out.put("[");
-    put_orders(alloc, row, &mut out, &process)?;
-    out.put("]");
-    out.finish()
+    let answer = of_process(alloc, row, &process);
+    drop(process);
+    answer
 }
 
-fn put_orders(
-    alloc: Global,
-    row: &Row,
-    out: &mut AnswerText,
-    process: &Process,
-) -> Result<(), RowFault> {
+fn of_process(alloc: Global, row: &Row, process: &Process) -> Result<String, RowFault> {
     let inputs = fields_of(alloc, row.json("inputs")?)?;
-    for order in row.list("orders")? {
-        let ends = order.as_array().ok_or(RowFault::BadArgument)?;
+    of_orders(alloc, row.list("orders")?, process, &inputs)
+}
+
+fn of_orders(
+    alloc: Global,
+    orders: &[Json],
+    process: &Process,
+    inputs: &Keyed<Value>,
+) -> Result<String, RowFault> {
+    let mut out = AnswerText::new(alloc);
+    out.put("[");
+    for order in orders {
         out.put_comma();
         out.put("[[");
-        put_order(alloc, out, process, &inputs, ends.as_slice())?;
+        put_order(alloc, &mut out, process, inputs, order);
         out.put("]]");
     }
-    Ok(())
+    out.put("]");
+    out.finish()
 }
 
 fn put_order(
@@ -49,63 +53,71 @@ fn put_order(
     out: &mut AnswerText,
     process: &Process,
     inputs: &Keyed<Value>,
-    ends: &[Json],
-) -> Result<(), RowFault> {
-    match Unfolding::new(alloc, process, inputs, Keyed::new(alloc)) {
-        Ok(unfolding) => learn_all(alloc, out, unfolding, ends),
-        Err(error) => {
-            put_error(alloc, out, &error);
-            Ok(())
-        }
+    order: &Json,
+) {
+    match order.as_array() {
+        None => out.fail(RowFault::BadArgument),
+        Some(ends) => put_ends(alloc, out, process, inputs, ends.as_slice()),
     }
 }
 
-fn learn_all(
+fn put_ends(
     alloc: Global,
     out: &mut AnswerText,
-    mut unfolding: Unfolding<'_>,
+    process: &Process,
+    inputs: &Keyed<Value>,
     ends: &[Json],
-) -> Result<(), RowFault> {
-    let mut needed = put_more(alloc, out, &unfolding, Vec::new(alloc))?;
+) {
+    match Unfolding::new(alloc, process, inputs, Keyed::new(alloc)) {
+        Ok(mut unfolding) => learn_all(alloc, out, &mut unfolding, ends),
+        Err(error) => put_error(alloc, out, &error),
+    }
+}
+
+fn learn_all(alloc: Global, out: &mut AnswerText, unfolding: &mut Unfolding<'_>, ends: &[Json]) {
+    let mut needed = Vec::new(alloc);
+    put_more(alloc, out, unfolding, &mut needed);
     for end in ends {
         out.put("],[");
-        learn(alloc, out, &mut unfolding, end)?;
-        needed = put_more(alloc, out, &unfolding, needed)?;
+        learn(alloc, out, unfolding, end);
+        put_more(alloc, out, unfolding, &mut needed);
     }
-    Ok(())
 }
 
 /// Learns one end, and puts what is wrong with it.
-fn learn(
+fn learn(alloc: Global, out: &mut AnswerText, unfolding: &mut Unfolding<'_>, end: &Json) {
+    match learned(alloc, unfolding, end) {
+        Ok(Ok(())) => {}
+        Ok(Err(error)) => put_error(alloc, out, &error),
+        Err(fault) => out.fail(fault),
+    }
+}
+
+fn learned(
     alloc: Global,
-    out: &mut AnswerText,
     unfolding: &mut Unfolding<'_>,
     end: &Json,
-) -> Result<(), RowFault> {
+) -> Result<Result<(), UnfoldError>, RowFault> {
     let number = number_of(end)?;
-    let outputs = outputs_of(alloc, end, number)?;
     let place = place_of(alloc, unfolding, number)?;
-    if let Err(error) = unfolding.learn(place, outputs) {
-        put_error(alloc, out, &error);
-    }
-    Ok(())
+    let outputs = outputs_of(alloc, end, number)?;
+    Ok(unfolding.learn(place, outputs))
 }
 
 /// Puts the jobs that have become known, the jobs of the graph that have become needed or not, where a new job is, and the
-/// result where there is one. Takes and returns which jobs are needed.
+/// result where there is one. Takes which jobs were needed, and gives which are.
 fn put_more(
     alloc: Global,
     out: &mut AnswerText,
     unfolding: &Unfolding<'_>,
-    needed: Vec<bool>,
-) -> Result<Vec<bool>, RowFault> {
+    needed: &mut Vec<bool>,
+) {
     put_jobs(alloc, out, unfolding.known(), needed.len());
-    let needed = put_graph(alloc, out, unfolding, needed)?;
+    put_graph(alloc, out, unfolding, needed);
     if let Some(outputs) = unfolding.result() {
         out.put_comma();
         put_entries(alloc, out, outputs);
     }
-    Ok(needed)
 }
 
 /// Puts the jobs from this number on.
@@ -129,29 +141,17 @@ fn put_graph(
     alloc: Global,
     out: &mut AnswerText,
     unfolding: &Unfolding<'_>,
-    needed: Vec<bool>,
-) -> Result<Vec<bool>, RowFault> {
-    match graph_of(alloc, unfolding)? {
-        Ok(graph) => Ok(put_vertices(
-            alloc,
-            out,
-            graph.vertices(),
-            unfolding.known(),
-            needed.as_slice(),
-        )?),
-        Err(error) => {
-            put_error(alloc, out, &error);
-            Ok(needed)
-        }
+    needed: &mut Vec<bool>,
+) {
+    match graph_of(alloc, unfolding) {
+        Ok(graph) => put_needed(alloc, out, graph.vertices(), unfolding.known(), needed),
+        Err(error) => put_error(alloc, out, &error),
     }
 }
 
-fn graph_of(
-    alloc: Global,
-    unfolding: &Unfolding<'_>,
-) -> Result<Result<Graph, UnfoldError>, AllocError> {
+fn graph_of(alloc: Global, unfolding: &Unfolding<'_>) -> Result<Graph, UnfoldError> {
     let costs = costs_of(alloc, unfolding.known().len())?;
-    Ok(unfolding.graph(costs.as_slice()))
+    unfolding.graph(costs.as_slice())
 }
 
 /// Costs for so many jobs, other ones for each.
@@ -192,25 +192,45 @@ fn within(number: u64) -> u64
     number.clamp(1, MOST_COST)
 }
 
-/// Puts which jobs have become needed or not, and which are not the known job with its costs. Returns which are needed.
-fn put_vertices(
+/// Puts which jobs have become needed or not, and which are not the known job with its costs. Takes which were needed, and
+/// gives which are.
+fn put_needed(
     alloc: Global,
     out: &mut AnswerText,
     vertices: &[Vertex],
     known: &[KnownJob<'_>],
-    needed: &[bool],
-) -> Result<Vec<bool>, AllocError> {
-    let mut flags = Vec::with_capacity(alloc, vertices.len())?;
+    needed: &mut Vec<bool>,
+) {
     for number in 0..vertices.len() {
-        let vertex = &vertices[number];
-        if !is_of(vertex, number, known) {
-            put_mark(out, "!", number);
-        }
-        match needed.get(number) {
-            Some(true) | None if !vertex.needed => put_mark(out, "-", number),
-            Some(false) if vertex.needed => put_mark(out, "+", number),
-            _ => {}
-        }
+        put_vertex(out, &vertices[number], number, known, needed.as_slice());
+    }
+    match flags_of(alloc, vertices) {
+        Ok(flags) => *needed = flags,
+        Err(_refused) => out.fail(RowFault::OutOfMemory),
+    }
+}
+
+fn put_vertex(
+    out: &mut AnswerText,
+    vertex: &Vertex,
+    number: usize,
+    known: &[KnownJob<'_>],
+    needed: &[bool],
+) {
+    if !is_of(vertex, number, known) {
+        put_mark(out, "!", number);
+    }
+    match needed.get(number) {
+        Some(true) | None if !vertex.needed => put_mark(out, "-", number),
+        Some(false) if vertex.needed => put_mark(out, "+", number),
+        _ => {}
+    }
+}
+
+/// Which are needed.
+fn flags_of(alloc: Global, vertices: &[Vertex]) -> Result<Vec<bool>, AllocError> {
+    let mut flags = Vec::with_capacity(alloc, vertices.len())?;
+    for vertex in vertices {
         flags.push(vertex.needed)?;
     }
     Ok(flags)

@@ -1,15 +1,16 @@
 //! Reads the processes of rows, and writes them as JSON: what is absent is left out.
 use crate::documents::told;
+use crate::short::put_canonical;
 use crate::template::{put_parts, put_template};
 use crate::tool::{put_members, put_secondaries, put_tool};
 use cwl_process::{
-    Asked, Entries, Links, Merge, Pick, Process, Run, Source, Step, StepInput, Workflow,
-    WorkflowInput, WorkflowOutput, read_unlinked,
+    Asked, Entries, Links, Merge, Pick, Process, Run, RunName, Source, Step, StepInput, Variable,
+    Workflow, WorkflowInput, WorkflowOutput, read_unlinked,
 };
-use cwl_value::{Value, canonical_text};
+use cwl_value::Value;
 use document_table::DocumentError;
 use plain_data::Text;
-use row_io::{Row, RowFault, json_text, quoted};
+use row_io::{AnswerText, Row, RowFault, json_text};
 use scatter_shape::Method;
 use std::alloc::Global;
 use std::mem;
@@ -47,9 +48,9 @@ fn answer(alloc: Global, found: &Found) -> Result<String, RowFault> {
 }
 
 fn process_text(alloc: Global, process: &Process) -> Result<String, RowFault> {
-    let mut out = String::new(alloc);
-    put_process(alloc, &mut out, process)?;
-    Ok(out)
+    let mut out = AnswerText::new(alloc);
+    put_process(alloc, &mut out, process);
+    out.finish()
 }
 
 fn written(alloc: Global, found: &Found) -> Result<String, RowFault> {
@@ -62,7 +63,7 @@ fn written(alloc: Global, found: &Found) -> Result<String, RowFault> {
 }
 
 #[cycle(process)]
-fn put_process(alloc: Global, out: &mut String, process: &Process) -> Result<(), RowFault> {
+fn put_process(alloc: Global, out: &mut AnswerText, process: &Process) {
     match process {
         Process::Tool(tool) => put_tool(alloc, out, tool),
         Process::Workflow(workflow) => put_workflow(alloc, out, workflow),
@@ -70,227 +71,216 @@ fn put_process(alloc: Global, out: &mut String, process: &Process) -> Result<(),
 }
 
 #[cycle(process)]
-fn put_workflow(alloc: Global, out: &mut String, workflow: &Workflow) -> Result<(), RowFault> {
-    out.push_str("{\"inputs\":{")?;
-    let mut gap = "";
-    for entry in workflow.inputs.as_slice() {
-        put_key(alloc, out, gap, entry.0.as_str())?;
-        put_workflow_input(alloc, out, &entry.1)?;
-        gap = ",";
+fn put_workflow(alloc: Global, out: &mut AnswerText, workflow: &Workflow) {
+    out.put("{\"inputs\":{");
+    put_workflow_inputs(alloc, out, workflow.inputs.as_slice());
+    out.put("},\"outputs\":{");
+    put_workflow_outputs(alloc, out, workflow.outputs.as_slice());
+    out.put("},\"steps\":{");
+    put_steps(alloc, out, &workflow.steps);
+    out.put("}}");
+}
+
+fn put_workflow_inputs(alloc: Global, out: &mut AnswerText, inputs: &[(Text, WorkflowInput)]) {
+    for entry in inputs {
+        put_key(out, entry.0.as_str());
+        put_workflow_input(alloc, out, &entry.1);
     }
-    out.push_str("},\"outputs\":{")?;
-    put_workflow_outputs(alloc, out, workflow.outputs.as_slice())?;
-    out.push_str("},\"steps\":{")?;
-    put_steps(alloc, out, &workflow.steps)?;
-    Ok(out.push_str("}}")?)
 }
 
-fn put_workflow_input(
-    alloc: Global,
-    out: &mut String,
-    input: &WorkflowInput,
-) -> Result<(), RowFault> {
-    out.push_str("{\"type\":")?;
-    put_members(alloc, out, &input.kind)?;
-    put_default(alloc, out, &input.default)?;
-    put_secondaries(alloc, out, &input.secondary_files)?;
-    Ok(out.push_str("}")?)
+fn put_workflow_input(alloc: Global, out: &mut AnswerText, input: &WorkflowInput) {
+    out.put("{\"type\":");
+    put_members(alloc, out, &input.kind);
+    put_default(alloc, out, &input.default);
+    put_secondaries(out, &input.secondary_files);
+    out.put("}");
 }
 
-fn put_workflow_outputs(
-    alloc: Global,
-    out: &mut String,
-    outputs: &[(Text, WorkflowOutput)],
-) -> Result<(), RowFault> {
-    let mut gap = "";
+fn put_workflow_outputs(alloc: Global, out: &mut AnswerText, outputs: &[(Text, WorkflowOutput)]) {
     for entry in outputs {
-        put_key(alloc, out, gap, entry.0.as_str())?;
-        out.push_str("{\"type\":")?;
-        put_members(alloc, out, &entry.1.kind)?;
-        put_links(alloc, out, &entry.1.links)?;
-        out.push_str("}")?;
-        gap = ",";
+        put_key(out, entry.0.as_str());
+        put_workflow_output(alloc, out, &entry.1);
     }
-    Ok(())
+}
+
+fn put_workflow_output(alloc: Global, out: &mut AnswerText, output: &WorkflowOutput) {
+    out.put("{\"type\":");
+    put_members(alloc, out, &output.kind);
+    put_links(out, &output.links);
+    out.put("}");
 }
 
 #[cycle(process)]
-fn put_steps(alloc: Global, out: &mut String, steps: &Entries<Step>) -> Result<(), RowFault> {
-    let mut gap = "";
+fn put_steps(alloc: Global, out: &mut AnswerText, steps: &Entries<Step>) {
     for entry in steps.as_slice() {
-        put_key(alloc, out, gap, entry.0.as_str())?;
-        put_step(alloc, out, &entry.1)?;
-        gap = ",";
+        put_key(out, entry.0.as_str());
+        put_step(alloc, out, &entry.1);
     }
-    Ok(())
 }
 
 #[cycle(process)]
-fn put_step(alloc: Global, out: &mut String, step: &Step) -> Result<(), RowFault> {
-    out.push_str("{\"in\":{")?;
-    put_step_inputs(alloc, out, step.inputs.as_slice())?;
-    out.push_str("},\"out\":")?;
-    put_texts(alloc, out, step.outputs.as_slice())?;
-    put_scatter(alloc, out, step)?;
-    put_template(alloc, out, "when", &step.when)?;
-    out.push_str(",\"run\":")?;
-    put_run(alloc, out, &step.run)?;
-    Ok(out.push_str("}")?)
+fn put_step(alloc: Global, out: &mut AnswerText, step: &Step) {
+    put_step_parts(alloc, out, step);
+    out.put(",\"run\":");
+    put_run(alloc, out, &step.run);
+    out.put("}");
+}
+
+/// What the step says beside its process.
+fn put_step_parts(alloc: Global, out: &mut AnswerText, step: &Step) {
+    out.put("{\"in\":{");
+    put_step_inputs(alloc, out, step.inputs.as_slice());
+    out.put("},\"out\":");
+    put_texts(out, step.outputs.as_slice());
+    put_scatter(out, step);
+    put_template(out, "when", &step.when);
 }
 
 #[cycle(process)]
-fn put_run(alloc: Global, out: &mut String, run: &Run) -> Result<(), RowFault> {
+fn put_run(alloc: Global, out: &mut AnswerText, run: &Run) {
     match run {
         Run::Inline(process) => put_process(alloc, out, process),
-        Run::Named(named) => {
-            out.push_str("{\"name\":")?;
-            put_quoted(alloc, out, named.name.as_str())?;
-            put_asked(alloc, out, &named.asked)?;
-            Ok(out.push_str("}")?)
-        }
+        Run::Named(named) => put_named(out, named),
     }
 }
 
-fn put_scatter(alloc: Global, out: &mut String, step: &Step) -> Result<(), RowFault> {
+fn put_named(out: &mut AnswerText, named: &RunName) {
+    out.put("{\"name\":");
+    out.put_quoted(named.name.as_str());
+    put_asked(out, &named.asked);
+    out.put("}");
+}
+
+fn put_scatter(out: &mut AnswerText, step: &Step) {
     if !step.scatter.is_empty() {
-        out.push_str(",\"scatter\":")?;
-        put_texts(alloc, out, step.scatter.as_slice())?;
+        out.put(",\"scatter\":");
+        put_texts(out, step.scatter.as_slice());
     }
-    let Some(method) = step.method else {
-        return Ok(());
-    };
-    Ok(out.push_str(match method {
+    if let Some(method) = step.method {
+        out.put(method_text(method));
+    }
+}
+
+fn method_text(method: Method) -> &'static str {
+    match method {
         Method::Dotproduct => ",\"method\":\"dot\"",
         Method::NestedCrossproduct => ",\"method\":\"nested\"",
         Method::FlatCrossproduct => ",\"method\":\"flat\"",
-    })?)
+    }
 }
 
-fn put_step_inputs(
-    alloc: Global,
-    out: &mut String,
-    inputs: &[(Text, StepInput)],
-) -> Result<(), RowFault> {
-    let mut gap = "";
+fn put_step_inputs(alloc: Global, out: &mut AnswerText, inputs: &[(Text, StepInput)]) {
     for entry in inputs {
-        put_key(alloc, out, gap, entry.0.as_str())?;
-        out.push_str("{\"step_input\":true")?;
-        put_links(alloc, out, &entry.1.links)?;
-        put_default(alloc, out, &entry.1.default)?;
-        put_template(alloc, out, "valueFrom", &entry.1.value_from)?;
-        out.push_str("}")?;
-        gap = ",";
+        put_key(out, entry.0.as_str());
+        put_step_input(alloc, out, &entry.1);
     }
-    Ok(())
 }
 
-fn put_links(alloc: Global, out: &mut String, links: &Links) -> Result<(), RowFault> {
+fn put_step_input(alloc: Global, out: &mut AnswerText, input: &StepInput) {
+    out.put("{\"step_input\":true");
+    put_links(out, &input.links);
+    put_default(alloc, out, &input.default);
+    put_template(out, "valueFrom", &input.value_from);
+    out.put("}");
+}
+
+fn put_links(out: &mut AnswerText, links: &Links) {
     if let Some(sources) = &links.sources {
-        out.push_str(",\"sources\":[")?;
-        put_sources(alloc, out, sources.as_slice())?;
-        out.push_str("]")?;
+        out.put(",\"sources\":[");
+        put_sources(out, sources.as_slice());
+        out.put("]");
     }
-    out.push_str(match links.merge {
+    out.put(merge_text(links.merge));
+    out.put(pick_text(links.pick));
+}
+
+fn merge_text(merge: Option<Merge>) -> &'static str {
+    match merge {
         None => "",
         Some(Merge::Nested) => ",\"merge\":\"nested\"",
         Some(Merge::Flattened) => ",\"merge\":\"flattened\"",
-    })?;
-    Ok(out.push_str(match links.pick {
+    }
+}
+
+fn pick_text(pick: Option<Pick>) -> &'static str {
+    match pick {
         None => "",
         Some(Pick::FirstNonNull) => ",\"pick\":\"first\"",
         Some(Pick::TheOnlyNonNull) => ",\"pick\":\"only\"",
         Some(Pick::AllNonNull) => ",\"pick\":\"all\"",
-    })?)
-}
-
-fn put_sources(alloc: Global, out: &mut String, sources: &[Source]) -> Result<(), RowFault> {
-    let mut gap = "[";
-    for source in sources {
-        out.push_str(gap)?;
-        if let Some(step) = &source.step {
-            put_quoted(alloc, out, step.as_str())?;
-            out.push_str(",")?;
-        }
-        put_quoted(alloc, out, source.name.as_str())?;
-        out.push_str("]")?;
-        gap = ",[";
     }
-    Ok(())
 }
 
-pub(crate) fn put_asked(alloc: Global, out: &mut String, asked: &Asked) -> Result<(), RowFault> {
+fn put_sources(out: &mut AnswerText, sources: &[Source]) {
+    for source in sources {
+        out.put_comma();
+        put_source(out, source);
+    }
+}
+
+fn put_source(out: &mut AnswerText, source: &Source) {
+    out.put("[");
+    if let Some(step) = &source.step {
+        out.put_quoted(step.as_str());
+        out.put(",");
+    }
+    out.put_quoted(source.name.as_str());
+    out.put("]");
+}
+
+pub(crate) fn put_asked(out: &mut AnswerText, asked: &Asked) {
     if let Some(environment) = asked.environment() {
-        out.push_str(",\"environment\":{")?;
-        let mut gap = "";
-        for entry in environment.as_slice() {
-            put_key(alloc, out, gap, entry.0.as_str())?;
-            out.push_str("[")?;
-            put_quoted(alloc, out, entry.1.written.as_str())?;
-            out.push_str(",")?;
-            put_parts(alloc, out, &entry.1.value)?;
-            out.push_str("]")?;
-            gap = ",";
-        }
-        out.push_str("}")?;
+        out.put(",\"environment\":{");
+        put_variables(out, environment.as_slice());
+        out.put("}");
     }
     if !asked.reuse() {
-        out.push_str(",\"reuse\":false")?;
-    }
-    Ok(())
-}
-
-pub(crate) fn put_default(
-    alloc: Global,
-    out: &mut String,
-    default: &Option<Value>,
-) -> Result<(), RowFault> {
-    match default {
-        None => Ok(()),
-        Some(value) => {
-            out.push_str(",\"default\":")?;
-            Ok(out.push_str(canonical_text(alloc, value)?.as_str())?)
-        }
+        out.put(",\"reuse\":false");
     }
 }
 
-pub(crate) fn put_text(
-    alloc: Global,
-    out: &mut String,
-    name: &str,
-    text: &Option<Text>,
-) -> Result<(), RowFault> {
-    match text {
-        None => Ok(()),
-        Some(text) => {
-            put_key(alloc, out, ",", name)?;
-            put_quoted(alloc, out, text.as_str())
-        }
+fn put_variables(out: &mut AnswerText, variables: &[(Text, Variable)]) {
+    for entry in variables {
+        put_key(out, entry.0.as_str());
+        put_variable(out, &entry.1);
     }
 }
 
-pub(crate) fn put_texts(alloc: Global, out: &mut String, texts: &[Text]) -> Result<(), RowFault> {
-    out.push_str("[")?;
-    let mut gap = "";
+fn put_variable(out: &mut AnswerText, variable: &Variable) {
+    out.put("[");
+    out.put_quoted(variable.written.as_str());
+    out.put(",");
+    put_parts(out, &variable.value);
+    out.put("]");
+}
+
+pub(crate) fn put_default(alloc: Global, out: &mut AnswerText, default: &Option<Value>) {
+    if let Some(value) = default {
+        out.put(",\"default\":");
+        put_canonical(alloc, out, value);
+    }
+}
+
+pub(crate) fn put_text(out: &mut AnswerText, name: &str, text: &Option<Text>) {
+    if let Some(text) = text {
+        put_key(out, name);
+        out.put_quoted(text.as_str());
+    }
+}
+
+/// A list of texts.
+pub(crate) fn put_texts(out: &mut AnswerText, texts: &[Text]) {
+    out.put("[");
     for text in texts {
-        out.push_str(gap)?;
-        put_quoted(alloc, out, text.as_str())?;
-        gap = ",";
+        out.put_comma();
+        out.put_quoted(text.as_str());
     }
-    Ok(out.push_str("]")?)
+    out.put("]");
 }
 
-/// The gap, the key and a colon.
-pub(crate) fn put_key(
-    alloc: Global,
-    out: &mut String,
-    gap: &str,
-    key: &str,
-) -> Result<(), RowFault> {
-    out.push_str(gap)?;
-    put_quoted(alloc, out, key)?;
-    Ok(out.push_str(":")?)
-}
-
-pub(crate) fn put_quoted(alloc: Global, out: &mut String, text: &str) -> Result<(), RowFault> {
-    Ok(out.push_str(quoted(alloc, text)?.as_str())?)
+/// The key and a colon, after a comma unless it is the first.
+pub(crate) fn put_key(out: &mut AnswerText, key: &str) {
+    out.put_comma();
+    out.put_quoted(key);
+    out.put(":");
 }

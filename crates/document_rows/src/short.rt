@@ -51,7 +51,7 @@ fn put_short(alloc: Global, out: &mut AnswerText, value: &Value) {
     }
 }
 
-fn put_canonical(alloc: Global, out: &mut AnswerText, value: &Value) {
+pub(crate) fn put_canonical(alloc: Global, out: &mut AnswerText, value: &Value) {
     match canonical_text(alloc, value) {
         Err(_refused) => out.fail(RowFault::OutOfMemory),
         Ok(text) => out.put(text.as_str()),

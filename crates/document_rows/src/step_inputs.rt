@@ -4,7 +4,7 @@ use cwl_process::{Links, Pick, StepInput};
 use cwl_value::{Value, canonical_text};
 use link_values::{LinkError, step_input, value_froms, when_value};
 use param_refs::Template;
-use plain_data::{Items, Text};
+use plain_data::{Items, Keyed, Text};
 use row_io::{Row, RowFault};
 use serde_json::Value as Json;
 use std::alloc::Global;
@@ -21,39 +21,66 @@ pub(crate) fn answer(alloc: Global, row: &Row) -> Result<String, RowFault> {
 
 fn of_input(alloc: Global, row: &Row) -> Result<String, RowFault> {
     let input = input_of(alloc, row.json("input")?)?;
+    input_told(alloc, row, &input)
+}
+
+fn input_told(alloc: Global, row: &Row, input: &StepInput) -> Result<String, RowFault> {
     let value = value_of(alloc, row.json("value")?)?;
-    told(alloc, step_input(alloc, &input, value))
+    let found = step_input(alloc, input, value);
+    told(alloc, &found)
+}
+
+fn told(alloc: Global, found: &Result<Value, LinkError>) -> Result<String, RowFault> {
+    match found {
+        Ok(value) => written(alloc, value),
+        Err(error) => coded(alloc, error),
+    }
 }
 
 fn of_value_froms(alloc: Global, row: &Row) -> Result<String, RowFault> {
-    let given = fields_of(alloc, row.json("inputs")?)?;
     let inputs = inputs_of(alloc, row)?;
-    match value_froms(alloc, inputs.as_slice(), &given) {
-        Ok(fields) => written_last(alloc, Value::Fields(fields)),
+    value_froms_told(alloc, row, inputs.as_slice())
+}
+
+fn value_froms_told(
+    alloc: Global,
+    row: &Row,
+    inputs: &[(Text, StepInput)],
+) -> Result<String, RowFault> {
+    let given = fields_of(alloc, row.json("inputs")?)?;
+    value_froms_over(alloc, inputs, &given)
+}
+
+fn value_froms_over(
+    alloc: Global,
+    inputs: &[(Text, StepInput)],
+    given: &Keyed<Value>,
+) -> Result<String, RowFault> {
+    match value_froms(alloc, inputs, given) {
+        Ok(fields) => written(alloc, &Value::Fields(fields)),
         Err(error) => coded(alloc, &error),
     }
 }
 
 fn of_when(alloc: Global, row: &Row) -> Result<String, RowFault> {
-    let given = fields_of(alloc, row.json("inputs")?)?;
     let when = template_of(alloc, row.text("when")?)?;
-    match when_value(&when, &given) {
-        Ok(flag) => written_last(alloc, Value::Bool(flag)),
+    when_told(alloc, row, &when)
+}
+
+fn when_told(alloc: Global, row: &Row, when: &Template) -> Result<String, RowFault> {
+    let given = fields_of(alloc, row.json("inputs")?)?;
+    when_over(alloc, when, &given)
+}
+
+fn when_over(alloc: Global, when: &Template, given: &Keyed<Value>) -> Result<String, RowFault> {
+    match when_value(when, given) {
+        Ok(flag) => written(alloc, &Value::Bool(flag)),
         Err(error) => coded(alloc, &error),
     }
 }
 
-fn told(alloc: Global, found: Result<Value, LinkError>) -> Result<String, RowFault> {
-    match found {
-        Ok(value) => written_last(alloc, value),
-        Err(error) => coded(alloc, &error),
-    }
-}
-
-fn written_last(alloc: Global, value: Value) -> Result<String, RowFault> {
-    let text = canonical_text(alloc, &value);
-    drop(value);
-    Ok(text?.into_string())
+fn written(alloc: Global, value: &Value) -> Result<String, RowFault> {
+    Ok(canonical_text(alloc, value)?.into_string())
 }
 
 fn coded(alloc: Global, error: &LinkError) -> Result<String, RowFault> {
@@ -65,36 +92,65 @@ fn coded(alloc: Global, error: &LinkError) -> Result<String, RowFault> {
 
 fn inputs_of(alloc: Global, row: &Row) -> Result<Vec<(Text, StepInput)>, RowFault> {
     let mut inputs = Vec::new(alloc);
+    put_inputs(alloc, &mut inputs, row)?;
+    Ok(inputs)
+}
+
+fn put_inputs(
+    alloc: Global,
+    inputs: &mut Vec<(Text, StepInput)>,
+    row: &Row,
+) -> Result<(), RowFault> {
     let Json::Object(members) = row.json("in")? else {
         return Err(RowFault::BadArgument);
     };
     for (name, json) in members.iter() {
-        let name = Text::from_text(alloc, name.as_str())?;
-        inputs.push((name, input_of(alloc, json)?))?;
+        inputs.push(named_input(alloc, name.as_str(), json)?)?;
     }
-    Ok(inputs)
+    Ok(())
+}
+
+fn named_input(alloc: Global, name: &str, json: &Json) -> Result<(Text, StepInput), RowFault> {
+    let name = Text::from_text(alloc, name)?;
+    Ok((name, input_of(alloc, json)?))
 }
 
 /// An input with `pickValue`, `default` and `valueFrom`; it has a source where `source` is there, whatever that says.
 fn input_of(alloc: Global, json: &Json) -> Result<StepInput, RowFault> {
-    let sources = json.get("source").map(|_source| Items::new(alloc));
-    let default = match json.get("default") {
-        None => None,
-        Some(default) => Some(value_of(alloc, default)?),
-    };
-    let value_from = match json.get("valueFrom").and_then(|text| text.as_str()) {
-        None => None,
-        Some(text) => Some(template_of(alloc, text)?),
-    };
-    Ok(StepInput {
-        links: Links {
-            sources,
-            merge: None,
-            pick: pick_of(json.get("pickValue").and_then(|name| name.as_str()))?,
-        },
+    let pick = pick_of(json.get("pickValue").and_then(|name| name.as_str()))?;
+    let value_from = value_from_of(alloc, json)?;
+    let default = default_of(alloc, json)?;
+    Ok(input_with(links_of(alloc, json, pick), default, value_from))
+}
+
+fn input_with(links: Links, default: Option<Value>, value_from: Option<Template>) -> StepInput {
+    StepInput {
+        links,
         default,
         value_from,
-    })
+    }
+}
+
+fn links_of(alloc: Global, json: &Json, pick: Option<Pick>) -> Links {
+    Links {
+        sources: json.get("source").map(|_source| Items::new(alloc)),
+        merge: None,
+        pick,
+    }
+}
+
+fn default_of(alloc: Global, json: &Json) -> Result<Option<Value>, RowFault> {
+    match json.get("default") {
+        None => Ok(None),
+        Some(default) => Ok(Some(value_of(alloc, default)?)),
+    }
+}
+
+fn value_from_of(alloc: Global, json: &Json) -> Result<Option<Template>, RowFault> {
+    match json.get("valueFrom").and_then(|text| text.as_str()) {
+        None => Ok(None),
+        Some(text) => Ok(Some(template_of(alloc, text)?)),
+    }
 }
 
 fn pick_of(name: Option<&str>) -> Result<Option<Pick>, RowFault> {

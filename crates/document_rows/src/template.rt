@@ -1,66 +1,53 @@
 //! Writes templates as JSON: the list of their parts, a plain one as its text, a reference as the list of its symbol and segments.
-use crate::process::{put_key, put_quoted};
+use crate::process::put_key;
 use param_refs::{Part, Reference, Segment, Template};
-use row_io::RowFault;
-use std::alloc::Global;
+use row_io::AnswerText;
 
-pub(crate) fn put_template(
-    alloc: Global,
-    out: &mut String,
-    name: &str,
-    template: &Option<Template>,
-) -> Result<(), RowFault> {
-    match template {
-        None => Ok(()),
-        Some(template) => {
-            put_key(alloc, out, ",", name)?;
-            put_parts(alloc, out, template)
-        }
+pub(crate) fn put_template(out: &mut AnswerText, name: &str, template: &Option<Template>) {
+    if let Some(template) = template {
+        put_key(out, name);
+        put_parts(out, template);
     }
 }
 
-pub(crate) fn put_templates(
-    alloc: Global,
-    out: &mut String,
-    templates: &[Template],
-) -> Result<(), RowFault> {
-    out.push_str("[")?;
-    let mut gap = "";
+pub(crate) fn put_templates(out: &mut AnswerText, templates: &[Template]) {
+    out.put("[");
     for template in templates {
-        out.push_str(gap)?;
-        put_parts(alloc, out, template)?;
-        gap = ",";
+        out.put_comma();
+        put_parts(out, template);
     }
-    Ok(out.push_str("]")?)
+    out.put("]");
 }
 
-pub(crate) fn put_parts(
-    alloc: Global,
-    out: &mut String,
-    template: &Template,
-) -> Result<(), RowFault> {
-    out.push_str("[")?;
-    let mut gap = "";
+pub(crate) fn put_parts(out: &mut AnswerText, template: &Template) {
+    out.put("[");
     for part in template.parts() {
-        out.push_str(gap)?;
-        match part {
-            Part::Plain(text) => put_quoted(alloc, out, text.as_str())?,
-            Part::Referred(reference) => put_reference(alloc, out, reference)?,
-        }
-        gap = ",";
+        out.put_comma();
+        put_part(out, part);
     }
-    Ok(out.push_str("]")?)
+    out.put("]");
 }
 
-fn put_reference(alloc: Global, out: &mut String, reference: &Reference) -> Result<(), RowFault> {
-    out.push_str("[")?;
-    put_quoted(alloc, out, reference.symbol.as_str())?;
-    for segment in reference.segments.as_slice() {
-        out.push_str(",")?;
-        match segment {
-            Segment::Key(key) => put_quoted(alloc, out, key.as_str())?,
-            Segment::Index(digits) => out.push_str(digits.as_str())?,
-        }
+fn put_part(out: &mut AnswerText, part: &Part) {
+    match part {
+        Part::Plain(text) => out.put_quoted(text.as_str()),
+        Part::Referred(reference) => put_reference(out, reference),
     }
-    Ok(out.push_str("]")?)
+}
+
+fn put_reference(out: &mut AnswerText, reference: &Reference) {
+    out.put("[");
+    out.put_quoted(reference.symbol.as_str());
+    for segment in reference.segments.as_slice() {
+        out.put(",");
+        put_segment(out, segment);
+    }
+    out.put("]");
+}
+
+fn put_segment(out: &mut AnswerText, segment: &Segment) {
+    match segment {
+        Segment::Key(key) => out.put_quoted(key.as_str()),
+        Segment::Index(digits) => out.put(digits.as_str()),
+    }
 }

@@ -1,191 +1,172 @@
 //! Writes tools as JSON.
-use crate::process::{put_asked, put_default, put_key, put_quoted, put_text, put_texts};
+use crate::process::{put_asked, put_default, put_key, put_text, put_texts};
 use crate::template::{put_template, put_templates};
-use crate::types;
+use crate::types::members_text;
 use cwl_process::{
-    Binding, InputType, OutputBinding, OutputType, SecondaryFile, Tool, ToolInput, ToolOutput,
+    Binding, ExitCodes, InputType, OutputBinding, OutputType, SecondaryFile, Streams, Tool,
+    ToolInput, ToolOutput,
 };
 use cwl_types::MemberType;
 use plain_data::{Items, Text};
-use row_io::RowFault;
+use row_io::AnswerText;
 use std::alloc::Global;
 
-pub(crate) fn put_tool(alloc: Global, out: &mut String, tool: &Tool) -> Result<(), RowFault> {
-    out.push_str("{\"baseCommand\":")?;
-    put_texts(alloc, out, tool.base_command.as_slice())?;
-    put_arguments(alloc, out, tool.arguments.as_slice())?;
-    put_inputs(alloc, out, tool.inputs.as_slice())?;
-    put_outputs(alloc, out, tool.outputs.as_slice())?;
-    put_template(alloc, out, "stdin", &tool.streams.stdin)?;
-    put_template(alloc, out, "stdout", &tool.streams.stdout)?;
-    put_template(alloc, out, "stderr", &tool.streams.stderr)?;
-    put_codes(alloc, out, "success", tool.exit_codes.success.as_slice())?;
-    put_codes(
-        alloc,
-        out,
-        "temporary",
-        tool.exit_codes.temporary.as_slice(),
-    )?;
-    put_codes(
-        alloc,
-        out,
-        "permanent",
-        tool.exit_codes.permanent.as_slice(),
-    )?;
-    put_asked(alloc, out, &tool.asked)?;
-    Ok(out.push_str("}")?)
+pub(crate) fn put_tool(alloc: Global, out: &mut AnswerText, tool: &Tool) {
+    out.put("{\"baseCommand\":");
+    put_texts(out, tool.base_command.as_slice());
+    put_arguments(out, tool.arguments.as_slice());
+    put_inputs(alloc, out, tool.inputs.as_slice());
+    put_outputs(alloc, out, tool.outputs.as_slice());
+    put_streams(out, &tool.streams);
+    put_exit_codes(out, &tool.exit_codes);
+    put_asked(out, &tool.asked);
+    out.put("}");
 }
 
-fn put_codes(alloc: Global, out: &mut String, name: &str, codes: &[i32]) -> Result<(), RowFault> {
+fn put_streams(out: &mut AnswerText, streams: &Streams) {
+    put_template(out, "stdin", &streams.stdin);
+    put_template(out, "stdout", &streams.stdout);
+    put_template(out, "stderr", &streams.stderr);
+}
+
+fn put_exit_codes(out: &mut AnswerText, codes: &ExitCodes) {
+    put_codes(out, "success", codes.success.as_slice());
+    put_codes(out, "temporary", codes.temporary.as_slice());
+    put_codes(out, "permanent", codes.permanent.as_slice());
+}
+
+fn put_codes(out: &mut AnswerText, name: &str, codes: &[i32]) {
     if codes.is_empty() {
-        return Ok(());
+        return;
     }
-    put_key(alloc, out, ",", name)?;
-    let mut gap = "[";
+    put_key(out, name);
+    out.put("[");
     for code in codes {
-        out.push_str(gap)?;
-        out.push_str(format!(in alloc; "{code}")?.as_str())?;
-        gap = ",";
+        out.put_comma();
+        out.put_whole(*code as i64);
     }
-    Ok(out.push_str("]")?)
+    out.put("]");
 }
 
-fn put_arguments(alloc: Global, out: &mut String, all: &[Binding]) -> Result<(), RowFault> {
-    out.push_str(",\"arguments\":[")?;
-    let mut gap = "";
+fn put_arguments(out: &mut AnswerText, all: &[Binding]) {
+    out.put(",\"arguments\":[");
     for binding in all {
-        out.push_str(gap)?;
-        put_binding(alloc, out, binding)?;
-        gap = ",";
+        out.put_comma();
+        put_binding(out, binding);
     }
-    Ok(out.push_str("]")?)
+    out.put("]");
 }
 
-fn put_binding(alloc: Global, out: &mut String, binding: &Binding) -> Result<(), RowFault> {
-    let position = binding.position;
-    let separate = binding.separate;
-    let text = format!(in alloc; "{{\"position\":{position},\"separate\":{separate}")?;
-    out.push_str(text.as_str())?;
-    drop(text);
-    put_text(alloc, out, "prefix", &binding.prefix)?;
-    put_text(alloc, out, "itemSeparator", &binding.item_separator)?;
-    put_template(alloc, out, "valueFrom", &binding.value_from)?;
-    Ok(out.push_str("}")?)
+fn put_binding(out: &mut AnswerText, binding: &Binding) {
+    out.put("{\"position\":");
+    out.put_whole(binding.position as i64);
+    out.put(",\"separate\":");
+    out.put_flag(binding.separate);
+    put_text(out, "prefix", &binding.prefix);
+    put_text(out, "itemSeparator", &binding.item_separator);
+    put_template(out, "valueFrom", &binding.value_from);
+    out.put("}");
 }
 
-fn put_inputs(
-    alloc: Global,
-    out: &mut String,
-    inputs: &[(Text, ToolInput)],
-) -> Result<(), RowFault> {
-    out.push_str(",\"inputs\":{")?;
-    let mut gap = "";
+fn put_inputs(alloc: Global, out: &mut AnswerText, inputs: &[(Text, ToolInput)]) {
+    out.put(",\"inputs\":{");
     for entry in inputs {
-        put_key(alloc, out, gap, entry.0.as_str())?;
-        put_input(alloc, out, &entry.1)?;
-        gap = ",";
+        put_key(out, entry.0.as_str());
+        put_input(alloc, out, &entry.1);
     }
-    Ok(out.push_str("}")?)
+    out.put("}");
 }
 
-fn put_input(alloc: Global, out: &mut String, input: &ToolInput) -> Result<(), RowFault> {
-    out.push_str("{\"type\":")?;
-    match &input.kind {
-        InputType::Stdin => out.push_str("\"stdin\"")?,
-        InputType::Members(members) => put_members(alloc, out, members)?,
-    }
-    put_default(alloc, out, &input.default)?;
-    if let Some(binding) = &input.binding {
-        out.push_str(",\"binding\":")?;
-        put_binding(alloc, out, binding)?;
-    }
+fn put_input(alloc: Global, out: &mut AnswerText, input: &ToolInput) {
+    out.put("{\"type\":");
+    put_input_type(alloc, out, &input.kind);
+    put_default(alloc, out, &input.default);
+    put_input_binding(out, &input.binding);
     if input.load_contents {
-        out.push_str(",\"loadContents\":true")?;
+        out.put(",\"loadContents\":true");
     }
-    put_secondaries(alloc, out, &input.secondary_files)?;
-    Ok(out.push_str("}")?)
+    put_secondaries(out, &input.secondary_files);
+    out.put("}");
 }
 
-fn put_outputs(
-    alloc: Global,
-    out: &mut String,
-    outputs: &[(Text, ToolOutput)],
-) -> Result<(), RowFault> {
-    out.push_str(",\"outputs\":{")?;
-    let mut gap = "";
+fn put_input_type(alloc: Global, out: &mut AnswerText, kind: &InputType) {
+    match kind {
+        InputType::Stdin => out.put("\"stdin\""),
+        InputType::Members(members) => put_members(alloc, out, members),
+    }
+}
+
+fn put_input_binding(out: &mut AnswerText, binding: &Option<Binding>) {
+    if let Some(binding) = binding {
+        out.put(",\"binding\":");
+        put_binding(out, binding);
+    }
+}
+
+fn put_outputs(alloc: Global, out: &mut AnswerText, outputs: &[(Text, ToolOutput)]) {
+    out.put(",\"outputs\":{");
     for entry in outputs {
-        put_key(alloc, out, gap, entry.0.as_str())?;
-        put_output(alloc, out, &entry.1)?;
-        gap = ",";
+        put_key(out, entry.0.as_str());
+        put_output(alloc, out, &entry.1);
     }
-    Ok(out.push_str("}")?)
+    out.put("}");
 }
 
-fn put_output(alloc: Global, out: &mut String, output: &ToolOutput) -> Result<(), RowFault> {
-    out.push_str("{\"type\":")?;
-    match &output.kind {
-        OutputType::Stdout => out.push_str("\"stdout\"")?,
-        OutputType::Stderr => out.push_str("\"stderr\"")?,
-        OutputType::Members(members) => put_members(alloc, out, members)?,
-    }
+fn put_output(alloc: Global, out: &mut AnswerText, output: &ToolOutput) {
+    out.put("{\"type\":");
+    put_output_type(alloc, out, &output.kind);
     if let Some(binding) = &output.binding {
-        put_output_binding(alloc, out, binding)?;
+        put_output_binding(out, binding);
     }
-    put_secondaries(alloc, out, &output.secondary_files)?;
-    Ok(out.push_str("}")?)
+    put_secondaries(out, &output.secondary_files);
+    out.put("}");
 }
 
-fn put_output_binding(
-    alloc: Global,
-    out: &mut String,
-    binding: &OutputBinding,
-) -> Result<(), RowFault> {
-    out.push_str(",\"binding\":{\"loadContents\":")?;
-    out.push_str(if binding.load_contents {
-        "true"
-    } else {
-        "false"
-    })?;
-    if let Some(glob) = &binding.glob {
-        out.push_str(",\"glob\":")?;
-        put_templates(alloc, out, glob.as_slice())?;
+fn put_output_type(alloc: Global, out: &mut AnswerText, kind: &OutputType) {
+    match kind {
+        OutputType::Stdout => out.put("\"stdout\""),
+        OutputType::Stderr => out.put("\"stderr\""),
+        OutputType::Members(members) => put_members(alloc, out, members),
     }
-    put_template(alloc, out, "outputEval", &binding.output_eval)?;
-    Ok(out.push_str("}")?)
+}
+
+fn put_output_binding(out: &mut AnswerText, binding: &OutputBinding) {
+    out.put(",\"binding\":{\"loadContents\":");
+    out.put_flag(binding.load_contents);
+    if let Some(glob) = &binding.glob {
+        out.put(",\"glob\":");
+        put_templates(out, glob.as_slice());
+    }
+    put_template(out, "outputEval", &binding.output_eval);
+    out.put("}");
 }
 
 /// The files that come with the File of a parameter; each after whether it has to be there.
-pub(crate) fn put_secondaries(
-    alloc: Global,
-    out: &mut String,
-    files: &Items<SecondaryFile>,
-) -> Result<(), RowFault> {
+pub(crate) fn put_secondaries(out: &mut AnswerText, files: &Items<SecondaryFile>) {
     if files.is_empty() {
-        return Ok(());
+        return;
     }
-    out.push_str(",\"secondaryFiles\":[")?;
-    let mut gap = "";
+    out.put(",\"secondaryFiles\":[");
     for file in files.as_slice() {
-        out.push_str(gap)?;
-        put_quoted(
-            alloc,
-            out,
-            if file.required { "needed" } else { "optional" },
-        )?;
-        out.push_str(",")?;
-        put_quoted(alloc, out, file.pattern.as_str())?;
-        gap = ",";
+        out.put_comma();
+        put_secondary(out, file);
     }
-    Ok(out.push_str("]")?)
+    out.put("]");
+}
+
+fn put_secondary(out: &mut AnswerText, file: &SecondaryFile) {
+    out.put(if file.required {
+        "\"needed\","
+    } else {
+        "\"optional\","
+    });
+    out.put_quoted(file.pattern.as_str());
 }
 
 /// A type as one text: the list of its members.
-pub(crate) fn put_members(
-    alloc: Global,
-    out: &mut String,
-    members: &Items<MemberType>,
-) -> Result<(), RowFault> {
-    let mut text = String::new(alloc);
-    types::put_members(alloc, &mut text, members.as_slice())?;
-    put_quoted(alloc, out, text.as_str())
+pub(crate) fn put_members(alloc: Global, out: &mut AnswerText, members: &Items<MemberType>) {
+    match members_text(alloc, members.as_slice()) {
+        Err(fault) => out.fail(fault),
+        Ok(text) => out.put_quoted(text.as_str()),
+    }
 }

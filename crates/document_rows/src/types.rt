@@ -3,82 +3,76 @@ use crate::documents::told;
 use cwl_types::{ArrayType, ItemBinding, MemberType, PlainType, read_type};
 use document_table::{Form, fault_in};
 use plain_data::Text;
-use row_io::{Row, RowFault, quoted};
+use row_io::{AnswerText, Row, RowFault};
 use serde_json::Value;
-use std::alloc::{AllocError, Global};
+use std::alloc::Global;
 
 /// The members of the row's type, or its fault.
 pub(crate) fn read(alloc: Global, row: &Row) -> Result<String, RowFault> {
     let value = row.json("type")?;
     match fault_in(alloc, Form::Type, value)? {
         Some(fault) => Ok(told(alloc, &fault)?),
-        None => {
-            let members = read_type(alloc, value)?;
-            let mut out = String::new(alloc);
-            put_members(alloc, &mut out, members.as_slice())?;
-            Ok(out)
-        }
+        None => read_members(alloc, value),
     }
 }
 
+fn read_members(alloc: Global, value: &Value) -> Result<String, RowFault> {
+    let members = read_type(alloc, value)?;
+    members_text(alloc, members.as_slice())
+}
+
+/// The list of the members.
+pub(crate) fn members_text(alloc: Global, members: &[MemberType]) -> Result<String, RowFault> {
+    let mut out = AnswerText::new(alloc);
+    put_members(&mut out, members);
+    out.finish()
+}
+
 #[cycle(members)]
-pub(crate) fn put_members(
-    alloc: Global,
-    out: &mut String,
-    members: &[MemberType],
-) -> Result<(), RowFault> {
-    out.push_str("[")?;
-    let mut later = false;
+fn put_members(out: &mut AnswerText, members: &[MemberType]) {
+    out.put("[");
     for member in members {
-        if later {
-            out.push_str(",")?;
-        }
-        put_member(alloc, out, member)?;
-        later = true;
+        out.put_comma();
+        put_member(out, member);
     }
-    Ok(out.push_str("]")?)
+    out.put("]");
 }
 
 #[cycle(members)]
-fn put_member(alloc: Global, out: &mut String, member: &MemberType) -> Result<(), RowFault> {
+fn put_member(out: &mut AnswerText, member: &MemberType) {
     match member {
-        MemberType::Plain(plain) => Ok(out.push_str(name_of(*plain))?),
-        MemberType::Array(array) => put_array(alloc, out, array),
-        MemberType::Enum(symbols) => {
-            out.push_str("enum")?;
-            put_texts(alloc, out, symbols.as_slice())
-        }
+        MemberType::Plain(plain) => out.put(name_of(*plain)),
+        MemberType::Array(array) => put_array(out, array),
+        MemberType::Enum(symbols) => put_enum(out, symbols.as_slice()),
     }
 }
 
 #[cycle(members)]
-fn put_array(alloc: Global, out: &mut String, array: &ArrayType) -> Result<(), RowFault> {
-    out.push_str("array")?;
-    put_members(alloc, out, array.items.as_slice())?;
-    match &array.binding {
-        None => Ok(()),
-        Some(binding) => put_binding(alloc, out, binding),
+fn put_array(out: &mut AnswerText, array: &ArrayType) {
+    out.put("array");
+    put_members(out, array.items.as_slice());
+    if let Some(binding) = &array.binding {
+        put_binding(out, binding);
     }
 }
 
-fn put_binding(alloc: Global, out: &mut String, binding: &ItemBinding) -> Result<(), RowFault> {
-    out.push_str(if binding.separate {
+fn put_binding(out: &mut AnswerText, binding: &ItemBinding) {
+    out.put(if binding.separate {
         " apart"
     } else {
         " joined"
-    })?;
-    match &binding.prefix {
-        None => Ok(()),
-        Some(prefix) => Ok(out.push_str(quoted(alloc, prefix.as_str())?.as_str())?),
+    });
+    if let Some(prefix) = &binding.prefix {
+        out.put_quoted(prefix.as_str());
     }
 }
 
-fn put_texts(alloc: Global, out: &mut String, texts: &[Text]) -> Result<(), RowFault> {
-    out.push_str("(")?;
-    for text in texts {
-        out.push_str(quoted(alloc, text.as_str())?.as_str())?;
+fn put_enum(out: &mut AnswerText, symbols: &[Text]) {
+    out.put("enum(");
+    for symbol in symbols {
+        out.put_quoted(symbol.as_str());
     }
-    Ok(out.push_str(")")?)
+    out.put(")");
 }
 
 fn name_of(plain: PlainType) -> &'static str {

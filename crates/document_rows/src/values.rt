@@ -1,30 +1,21 @@
 //! Writes defaults as JSON, with the paths of their Files and Directories.
-use crate::process::{put_key, put_quoted};
-use cwl_value::{DirVal, FileVal, Place, Value, canonical_text};
+use crate::process::put_key;
+use crate::short::put_canonical;
+use cwl_value::{DirVal, FileVal, Place, Value};
 use plain_data::{Items, Text};
-use row_io::RowFault;
+use row_io::AnswerText;
 use std::alloc::Global;
 
-/// The key and the value, where there is one. The gap before the next.
-pub(crate) fn put_default(
-    alloc: Global,
-    out: &mut String,
-    gap: &'static str,
-    id: &Text,
-    default: &Option<Value>,
-) -> Result<&'static str, RowFault> {
-    match default {
-        None => Ok(gap),
-        Some(value) => {
-            put_key(alloc, out, gap, id.as_str())?;
-            put_value(alloc, out, value)?;
-            Ok(",")
-        }
+/// The key and the value, where there is one.
+pub(crate) fn put_default(alloc: Global, out: &mut AnswerText, id: &Text, default: &Option<Value>) {
+    if let Some(value) = default {
+        put_key(out, id.as_str());
+        put_value(alloc, out, value);
     }
 }
 
 #[cycle(values)]
-fn put_value(alloc: Global, out: &mut String, value: &Value) -> Result<(), RowFault> {
+fn put_value(alloc: Global, out: &mut AnswerText, value: &Value) {
     match value {
         Value::FileVal(file) => put_file(alloc, out, file),
         Value::DirVal(dir) => put_dir(alloc, out, dir),
@@ -34,57 +25,50 @@ fn put_value(alloc: Global, out: &mut String, value: &Value) -> Result<(), RowFa
     }
 }
 
-fn put_canonical(alloc: Global, out: &mut String, value: &Value) -> Result<(), RowFault> {
-    Ok(out.push_str(canonical_text(alloc, value)?.as_str())?)
-}
-
 #[cycle(values)]
-fn put_file(alloc: Global, out: &mut String, file: &FileVal) -> Result<(), RowFault> {
-    put_place(alloc, out, "{\"path\":", &file.place, &file.basename)?;
+fn put_file(alloc: Global, out: &mut AnswerText, file: &FileVal) {
+    put_place(out, "{\"path\":", &file.place, &file.basename);
     if !file.secondary.is_empty() {
-        out.push_str(",\"secondaryFiles\":")?;
-        put_values(alloc, out, &file.secondary)?;
+        out.put(",\"secondaryFiles\":");
+        put_values(alloc, out, &file.secondary);
     }
-    Ok(out.push_str("}")?)
+    out.put("}");
 }
 
 #[cycle(values)]
-fn put_dir(alloc: Global, out: &mut String, dir: &DirVal) -> Result<(), RowFault> {
-    put_place(alloc, out, "{\"folder\":", &dir.place, &dir.basename)?;
+fn put_dir(alloc: Global, out: &mut AnswerText, dir: &DirVal) {
+    put_place(out, "{\"folder\":", &dir.place, &dir.basename);
     if let Some(listing) = &dir.listing {
-        out.push_str(",\"listing\":")?;
-        put_values(alloc, out, listing)?;
+        out.put(",\"listing\":");
+        put_values(alloc, out, listing);
     }
-    Ok(out.push_str("}")?)
+    out.put("}");
 }
 
 #[cycle(values)]
-fn put_values(alloc: Global, out: &mut String, values: &Items<Value>) -> Result<(), RowFault> {
-    out.push_str("[")?;
-    let mut gap = "";
+fn put_values(alloc: Global, out: &mut AnswerText, values: &Items<Value>) {
+    out.put("[");
     for value in values.as_slice() {
-        out.push_str(gap)?;
-        put_value(alloc, out, value)?;
-        gap = ",";
+        out.put_comma();
+        put_value(alloc, out, value);
     }
-    Ok(out.push_str("]")?)
+    out.put("]");
 }
 
-fn put_place(
-    alloc: Global,
-    out: &mut String,
-    key: &str,
-    place: &Place,
-    basename: &Option<Text>,
-) -> Result<(), RowFault> {
-    out.push_str(key)?;
+fn put_place(out: &mut AnswerText, key: &str, place: &Place, basename: &Option<Text>) {
+    out.put(key);
     match place {
-        Place::Path(path) => put_quoted(alloc, out, path.as_str())?,
-        Place::Nowhere | Place::Url(_) | Place::Made(_, _) => out.push_str("null")?,
+        Place::Path(path) => out.put_quoted(path.as_str()),
+        Place::Nowhere | Place::Url(_) | Place::Made(_, _) => out.put("null"),
     }
-    out.push_str(",\"basename\":")?;
-    match basename {
-        Some(name) => put_quoted(alloc, out, name.as_str()),
-        None => Ok(out.push_str("null")?),
+    out.put(",\"basename\":");
+    put_text_or_null(out, basename);
+}
+
+/// A text in its quotes, or `null`.
+pub(crate) fn put_text_or_null(out: &mut AnswerText, text: &Option<Text>) {
+    match text {
+        Some(text) => out.put_quoted(text.as_str()),
+        None => out.put("null"),
     }
 }
