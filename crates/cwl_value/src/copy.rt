@@ -35,11 +35,7 @@ pub(crate) fn copy_texts(
 fn copy_index(alloc: Global, index: &Items<usize>) -> Result<Items<usize>, AllocError>
     ensures { IfOk result (λ copy. copy ≡ index.now) }
 {
-    let mut copies = Items::new(alloc);
-    for number in index.as_slice() {
-        copies.push(*number)?;
-    }
-    Ok(copies)
+    Ok(Items::from_vec(Vec::from_slice(alloc, index.as_slice())?))
 }
 
 impl Segment {
@@ -56,7 +52,7 @@ impl Segment {
 pub fn copy_job(alloc: Global, job: &JobPlace) -> Result<JobPlace, AllocError>
     ensures { IfOk result (λ copy. copy ≡ job.now) }
 {
-    let mut copies = Items::new(alloc);
+    let mut copies = Items::from_vec(Vec::with_capacity(alloc, job.len())?);
     for segment in job.as_slice() {
         copies.push(segment.clone_in(alloc)?)?;
     }
@@ -144,7 +140,7 @@ impl DirVal {
 pub fn copy_items(alloc: Global, items: &Items<Value>) -> Result<Items<Value>, AllocError>
     ensures { IfOk result (λ copy. copy ≡ items.now) }
 {
-    let mut copies = Items::new(alloc);
+    let mut copies = Items::from_vec(Vec::with_capacity(alloc, items.len())?);
     for item in items.as_slice() {
         copies.push(item.clone_in(alloc)?)?;
     }
@@ -155,7 +151,7 @@ pub fn copy_items(alloc: Global, items: &Items<Value>) -> Result<Items<Value>, A
 pub fn copy_fields(alloc: Global, fields: &Keyed<Value>) -> Result<Keyed<Value>, AllocError>
     ensures { IfOk result (λ copy. copy ≡ fields.now) }
 {
-    let mut copies = Vec::new(alloc);
+    let mut copies = Vec::with_capacity(alloc, fields.len())?;
     for field in fields.as_slice() {
         let name = field.0.copied(alloc)?;
         copies.push((name, field.1.clone_in(alloc)?))?;
