@@ -1,4 +1,4 @@
-ghost use Rattle.std.specs.Prelude.{◌≡◌, [], length, ◌↔◌, IsTrue, IsSome, IsOk, IfOk, IfErr, OnOk, OnErr, MatchOption, ◌<◌, ◌&&◌, bytes_eq};
+ghost use Rattle.std.specs.Prelude.{◌≡◌, [], length, ◌↔◌, IsTrue, IsSome, IsOk, IfOk, IfErr, OnOk, OnErr, MatchOption, ◌<◌, ◌≤◌, ◌&&◌, bytes_eq, insert, vec_len};
 ghost use Rattle.std.specs.Option.{option_copied};
 ghost use Rattle.std.specs.Cmp.{and_per, on_per, partial_equiv_from_equiv};
 ghost use Rattle.std.specs.Cmp.Lexicographic.{pointwise, lists_per, nat_list_eq_equiv};
@@ -138,7 +138,7 @@ impl<T: Drop> Keyed<T> {
                 Ok(Some(mem::replace(&mut entry.1, value)))
             }
             Err(index) => {
-                self.entries.insert(index, (name, value))?;
+                put_entry(&mut self.entries, index, (name, value))?;
                 Ok(None)
             }
         }
@@ -159,6 +159,24 @@ impl<T: fmt::Debug> fmt::Debug for Keyed<T> {
     fn fmt<W: fmt::Write>(&self, f: &mut fmt::Formatter<W>) -> fmt::Result {
         fmt::Debug::fmt(&self.as_slice(), f)
     }
+}
+
+// Puts an entry at an index. The first gets room for itself alone, since many lists have no other: `insert` would make
+// room for four.
+fn put_entry<T: Drop>(
+    entries: &mut Vec<(Text, T)>,
+    index: usize,
+    entry: (Text, T),
+) -> Result<(), AllocError>
+    requires { index ≤ vec_len entries.old }
+    ensures items { OnOk result (entries.new.items ≡ insert entries.old.items index entry) }
+    ensures err { OnErr result (entries.new.items ≡ entries.old.items) }
+{
+    if entries.is_empty() {
+        entries.reserve_exact(1)?;
+    }
+    entries.insert(index, entry)?;
+    Ok(())
 }
 
 // The entries in the order of their names, those with one name side by side.

@@ -18,18 +18,18 @@ returns-in-Ok-clause-new g c =
 -- the name is new, and goes into the gap for it
 pub invariant_of-self-in-Err : goal.invariant_of-self-in-Err
 invariant_of-self-in-Err g c =
-    rw c.in_ok-insert-in-Err.ensures.items (order_in_gap c.args.name _ _ c.self.invariant (rw (c.self.view_is, ← c.as_str.ensures.bytes) c.in-Err.ensures) _)
+    rw c.in_ok-put_entry-in-Err.ensures.items (order_in_gap c.args.name _ _ c.self.invariant (rw (c.self.view_is, ← c.as_str.ensures.bytes) c.in-Err.ensures) _)
 
-pub returns-in_ok-insert-in-Err-clause-old : goal.returns-in_ok-insert-in-Err-clause-old
-returns-in_ok-insert-in-Err-clause-old g c =
+pub returns-in_ok-put_entry-in-Err-clause-old : goal.returns-in_ok-put_entry-in-Err-clause-old
+returns-in_ok-put_entry-in-Err-clause-old g c =
     rw (← c.self.view_is) (sym (value_at_gap c.args.name _ c.in-Err.index c.self.invariant (rw (c.self.view_is, ← c.as_str.ensures.bytes) c.in-Err.ensures)))
 
-pub returns-in_ok-insert-in-Err-clause-new : goal.returns-in_ok-insert-in-Err-clause-new
-returns-in_ok-insert-in-Err-clause-new g c =
-    rw (c.in_ok-insert-in-Err.ensures.items, ← c.self.view_is) (insert_in_gap c.args.name _ _ c.self.invariant (rw (c.self.view_is, ← c.as_str.ensures.bytes) c.in-Err.ensures) _)
+pub returns-in_ok-put_entry-in-Err-clause-new : goal.returns-in_ok-put_entry-in-Err-clause-new
+returns-in_ok-put_entry-in-Err-clause-new g c =
+    rw (c.in_ok-put_entry-in-Err.ensures.items, ← c.self.view_is) (insert_in_gap c.args.name _ _ c.self.invariant (rw (c.self.view_is, ← c.as_str.ensures.bytes) c.in-Err.ensures) _)
 
 -- only a new name needs memory
-pub returns-in_err-insert-in-Err-clause-replaces :
-    goal.returns-in_err-insert-in-Err-clause-replaces
-returns-in_err-insert-in-Err-clause-replaces g c =
+pub returns-in_err-put_entry-in-Err-clause-replaces :
+    goal.returns-in_err-put_entry-in-Err-clause-replaces
+returns-in_err-put_entry-in-Err-clause-replaces g c =
     rw (← c.self.view_is) (λ found. absurd (not_found_in_gap c.args.name _ c.in-Err.index c.self.invariant (rw (c.self.view_is, ← c.as_str.ensures.bytes) c.in-Err.ensures) found))
