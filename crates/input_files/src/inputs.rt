@@ -1,5 +1,5 @@
 //! A job's inputs, as they were measured.
-ghost use Rattle.std.specs.Prelude.{◌≡◌, IfOk, IfErr, OnOk, Ok};
+ghost use Rattle.std.specs.Prelude.{◌≡◌, [], IfOk, IfErr, OnOk, Ok};
 ghost use Rattle.plain_data.specs.ByName.{with_value};
 ghost use Rattle.input_files.specs.Inputs as spec;
 ghost use Rattle.input_files.specs.Refusals.{RefusesInputs};
@@ -118,7 +118,7 @@ fn measured_inputs(
     ensures { IfOk result (λ named. named
         ≡ spec.measured_inputs measures.now inputs.now given.now) }
 {
-    let mut named = Keyed::new(alloc);
+    let mut named = room_for(alloc, inputs.len())?;
     for input in inputs {
         let value = measured_value(alloc, given, measures, input)?;
         put(alloc, &mut named, &input.0, value)?;
@@ -153,6 +153,13 @@ pub(crate) fn with_measures(
 {
     let measured = as_measured(alloc, measures, value)?;
     all_beside(alloc, measures, declared, measured)
+}
+
+/// No values yet, and room for this many.
+pub(crate) fn room_for(alloc: Global, count: usize) -> Result<Keyed<Value>, AllocError>
+    ensures { IfOk result (λ named. named ≡ []) }
+{
+    Ok(Keyed::from_sorted(Vec::with_capacity(alloc, count)?))
 }
 
 /// Puts a value under a copy of a name.

@@ -7,7 +7,7 @@ ghost use Rattle.input_files.specs.Taken as spec;
 use crate::beside::all_beside;
 use crate::carried::lacks_carried;
 use crate::fault::{InputError, InputFault};
-use crate::inputs::{put, with_measures};
+use crate::inputs::{put, room_for, with_measures};
 use crate::measured::as_measured;
 use crate::parameter::Parameter;
 use crate::present::is_present;
@@ -30,7 +30,7 @@ pub fn root_fields<P: Parameter>(
     ensures { IfOk result (λ fields. fields
         ≡ spec.root_fields P.of inputs.now given.now measures.now) }
 {
-    let mut fields = Keyed::new(alloc);
+    let mut fields = room_for(alloc, inputs.len())?;
     for input in inputs {
         let value = root_value(alloc, given, measures, input)?;
         put(alloc, &mut fields, &input.0, value)?;
@@ -74,7 +74,7 @@ pub fn process_inputs<P: Parameter>(
     ensures err { IfErr result
         (RefusesInputs (spec.process_inputs P.of inputs.now fields.now measures.now)) }
 {
-    let mut taken = Keyed::new(alloc);
+    let mut taken = room_for(alloc, inputs.len())?;
     for input in inputs {
         take_input(alloc, fields, measures, input, &mut taken)?;
     }
