@@ -52,7 +52,7 @@ pub(crate) fn job_outs(
         ≡ outs_of (keys_of outputs.now)
         (option_map (fields_made place.now) (option_copied found.entry))) }
 {
-    let mut outs = Items::new(alloc);
+    let mut outs = Items::from_vec(Vec::with_capacity(alloc, outputs.len())?);
     for output in outputs.as_slice() {
         let name = output.0.copied(alloc)?;
         outs.push((name, out_value(alloc, found, output.0.as_str(), place)?))?;

@@ -66,7 +66,7 @@ fn are_at_end(one: &[Segment], other: &[Segment]) -> bool
     }
 }
 
-/// The place of a step, at a tuple where it is scattered.
+/// The place of a step, at a tuple where it is scattered, with no more room than it takes.
 pub(crate) fn step_place(
     alloc: Global,
     place: &JobPlace,
@@ -77,9 +77,10 @@ pub(crate) fn step_place(
 {
     let index = Items::from_vec(Vec::from_slice(alloc, tuple.as_slice())?);
     let step = id.copied(alloc)?;
-    let mut found = copy_job(alloc, place)?;
+    let mut found = copy_job(alloc, place)?.into_vec();
+    found.reserve_exact(1)?;
     found.push(Segment { step, index })?;
-    Ok(found)
+    Ok(Items::from_vec(found))
 }
 
 /// The segments of a place after its first one.

@@ -162,7 +162,7 @@ fn job_walk<'a>(
         &tool.outputs,
         &place,
     )?;
-    let mut met = Items::new(alloc);
+    let mut met = Items::from_vec(Vec::with_capacity(alloc, 1)?);
     met.push(Met::Job(Job {
         place,
         tool,
