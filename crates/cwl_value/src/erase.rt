@@ -66,7 +66,7 @@ fn erased_dir(alloc: Global, dir: &DirVal) -> Result<DirVal, AllocError>
 pub fn erased_items(alloc: Global, items: &Items<Value>) -> Result<Items<Value>, AllocError>
     ensures { IfOk result (λ bare. bare ≡ items_erased items.now) }
 {
-    let mut found = Items::new(alloc);
+    let mut found = Items::from_vec(Vec::with_capacity(alloc, items.len())?);
     for item in items.as_slice() {
         found.push(erased(alloc, item)?)?;
     }
@@ -77,7 +77,7 @@ pub fn erased_items(alloc: Global, items: &Items<Value>) -> Result<Items<Value>,
 pub fn erased_fields(alloc: Global, fields: &Keyed<Value>) -> Result<Keyed<Value>, AllocError>
     ensures { IfOk result (λ bare. bare ≡ fields_erased fields.now) }
 {
-    let mut found = Vec::new(alloc);
+    let mut found = Vec::with_capacity(alloc, fields.len())?;
     for field in fields.as_slice() {
         let name = field.0.copied(alloc)?;
         found.push((name, erased(alloc, &field.1)?))?;

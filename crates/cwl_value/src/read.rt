@@ -80,7 +80,7 @@ fn read_items(alloc: Global, items: &Vec<Json>) -> Result<Items<Value>, ValueRef
     ensures err { IfErr result (λ e. e ≢ OutOfMemory
         → all_read (items_read (items_view items.now.items)) ≡ Err e) }
 {
-    let mut found = Items::new(alloc);
+    let mut found = Items::from_vec(Vec::with_capacity(alloc, items.len())?);
     for item in items {
         found.push(read(alloc, item)?)?;
     }
@@ -109,7 +109,7 @@ fn read_fields(alloc: Global, members: &Map<String, Json>) -> Result<Keyed<Value
     ensures err { IfErr result (λ e. e ≢ OutOfMemory
         → fields_read (members_read (members_view members.now.entries)) ≡ Err e) }
 {
-    let mut found = Vec::new(alloc);
+    let mut found = Vec::with_capacity(alloc, members.len())?;
     for (key, member) in members.iter() {
         let name = Text::from_text(alloc, key.as_str())?;
         found.push((name, read(alloc, member)?))?;

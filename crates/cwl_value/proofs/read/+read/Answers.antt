@@ -16,7 +16,7 @@ read_items-loop-item-preserved t c =
 
 pub read_items-returns-in_err-read-clause-err : goal.read_items-returns-in_err-read-clause-err
 read_items-returns-in_err-read-clause-err t c =
-    let p = err_from_is_err_and c.from_residual.result c.from_residual.ensures.1 in
+    let p = err_from_is_err_and c.from_residual-in_err-read.result c.from_residual-in_err-read.ensures.1 in
     let stop = λ (never : _). items_stop c.deref-item-items.result.now c.loop-item.item-index c.item-item.result c.loop-item.found c.in_err-read.field-0.0 c.loop-item-test.true c.item-item.is c.loop-item.invariant (c.in_err-read.ensures.err never) in
     rw (p.1, p.2, ← c.deref-item-items.ensures.value) stop
 
