@@ -39,7 +39,7 @@ impl Row {
 fn copy_files(alloc: Global, files: &Items<Found>) -> Result<Items<Found>, AllocError>
     ensures { IfOk result (λ copy. copy ≡ files.now) }
 {
-    let mut copies = Items::new(alloc);
+    let mut copies = Items::from_vec(Vec::with_capacity(alloc, files.len())?);
     for found in files.as_slice() {
         copies.push(found.clone_in(alloc)?)?;
     }
