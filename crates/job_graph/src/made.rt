@@ -181,7 +181,7 @@ fn items_made(
 ) -> Result<Items<Value>, AllocError>
     ensures { IfOk result (λ made. made ≡ map (value_moved (made_place job.now)) items.now) }
 {
-    let mut found = Items::new(alloc);
+    let mut found = Items::from_vec(Vec::with_capacity(alloc, items.len())?);
     for item in items.as_slice() {
         found.push(value_made(alloc, job, item)?)?;
     }
@@ -196,7 +196,7 @@ fn fields_made(
 ) -> Result<Keyed<Value>, AllocError>
     ensures { IfOk result (λ made. made ≡ fields_made job.now fields.now) }
 {
-    let mut found = Vec::new(alloc);
+    let mut found = Vec::with_capacity(alloc, fields.len())?;
     for field in fields.as_slice() {
         let name = field.0.copied(alloc)?;
         found.push((name, value_made(alloc, job, &field.1)?))?;
