@@ -88,7 +88,7 @@ fn measured_items(
 ) -> Result<Items<Value>, AllocError>
     ensures { IfOk result (λ vs. vs ≡ map (spec.as_measured measures.now) items.now) }
 {
-    let mut found = Items::new(alloc);
+    let mut found = Items::from_vec(Vec::with_capacity(alloc, items.len())?);
     for item in items.as_slice() {
         found.push(as_measured(alloc, measures, item)?)?;
     }
@@ -103,7 +103,7 @@ fn measured_fields(
 ) -> Result<Keyed<Value>, AllocError>
     ensures { IfOk result (λ es. es ≡ map_values (spec.as_measured measures.now) fields.now) }
 {
-    let mut found = Vec::new(alloc);
+    let mut found = Vec::with_capacity(alloc, fields.len())?;
     for field in fields.as_slice() {
         let name = field.0.copied(alloc)?;
         found.push((name, as_measured(alloc, measures, &field.1)?))?;
