@@ -148,7 +148,7 @@ fn items_beside(
     ensures { IfOk result (λ vs. vs ≡ map (with_file (spec.file_beside measures.now declared.now))
         values) }
 {
-    let mut found = Items::new(alloc);
+    let mut found = Items::from_vec(Vec::with_capacity(alloc, values.len())?);
     for value in values.into_vec() {
         found.push(one_beside(alloc, measures, declared, value)?)?;
     }
