@@ -16,6 +16,7 @@ pub mod Limits
 mod Loops
 mod Marks
 mod MetMore
+mod Needed
 mod Nesting
 mod OneOpen
 mod OneTuple

@@ -8,6 +8,7 @@ pub mod Kept
 pub mod Levels
 pub mod Makers
 pub mod Marks
+pub mod Needed
 pub mod Nested
 pub mod OneTuple
 pub mod Outputs

@@ -57,7 +57,6 @@ pub use laws::{
     results_learned_each_job, results_stay,
 };
 pub use paths::input_paths;
-pub use place::is_same_place;
 pub use sought::Sought;
 pub use unfolding::Unfolding;
 pub use walk::Job;

@@ -9,7 +9,7 @@ use plain_data::{Items, Text};
 use std::alloc::{AllocError, Global};
 
 /// Whether two places are the same.
-pub fn is_same_place(one: &[Segment], other: &[Segment]) -> bool
+pub(crate) fn is_same_place(one: &[Segment], other: &[Segment]) -> bool
     ensures { result ≡ is_same_place one.now other.now }
 {
     match one {

@@ -37,7 +37,7 @@ use std::mem;
 /// What is known of a process on its inputs. Each `learn` by which more may be known goes on with the walk that was made last.
 #[derive(Drop)]
 pub(crate) struct Progress<'a> {
-    alloc: Global,
+    pub alloc: Global,
     process: &'a Process,
     /// What is handed to the process.
     fields: Keyed<Value>,

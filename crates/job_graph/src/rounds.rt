@@ -1,5 +1,5 @@
 //! The steps of a workflow: each is walked once, when none of its inputs waits any more.
-ghost use Rattle.std.specs.Prelude.{◌≡◌, IfOk, None, OnOk, is_some, map, replicate, unwrap_or};
+ghost use Rattle.std.specs.Prelude.{◌≡◌, IfOk, None, OnOk, is_some, map, replicate};
 ghost use Rattle.document_links.specs.declared.process.Step.{out-Step};
 ghost use Rattle.plain_data.specs.ByName.{value_at, with_value};
 ghost use Rattle.job_graph.specs.Links.{out_under};

@@ -18,11 +18,14 @@ use plan_checker::Graph;
 use staging::Measure;
 use std::alloc::Global;
 use std::marker::Model;
+use std::mem;
 
 /// What is known of a process on its inputs, which contracts see as what was learned and what is known by it.
 #[derive(Drop)]
 pub struct Unfolding<'a> {
     progress: Progress<'a>,
+    /// Whether each known job is needed, where that was asked for since the last `learn`.
+    needed: Option<Vec<bool>>,
 }
 
 impl<'a> Model for Unfolding<'a> {
@@ -36,11 +39,12 @@ impl<'a> Model for Unfolding<'a> {
 
     ghost coded = { Prim.hlevel (codes, process.the_row.coded, tool.the_row.coded, value.the_row.coded) };
 
-    ghost use Rattle.job_graph.specs.inner.Inside.{seen, Stands};
+    ghost use Rattle.job_graph.specs.inner.Inside.{seen};
+    ghost use Rattle.job_graph.specs.inner.Needed.{IsUpheld};
 
     ghost view = { λ fields. seen fields.progress };
 
-    ghost invariant = { λ fields. Stands fields.progress };
+    ghost invariant = { λ fields. IsUpheld fields.progress fields.needed };
 }
 
 impl<'a> Unfolding<'a> {
@@ -56,7 +60,10 @@ impl<'a> Unfolding<'a> {
             (Blames (unfolded (walker process.now inputs.now measures) []).fault) }
     {
         match Progress::new(alloc, process, inputs, measures) {
-            Ok(progress) => Ok(Unfolding { progress }),
+            Ok(progress) => Ok(Unfolding {
+                progress,
+                needed: None,
+            }),
             Err(error) => Err(error),
         }
     }
@@ -69,6 +76,7 @@ impl<'a> Unfolding<'a> {
         ensures ok { OnOk result (take (length self.old.known) self.new.known ≡ self.old.known) }
         ensures err { OnErr result (AnswersAlike self.old self.new) }
     {
+        mem::drop(mem::replace(&mut self.needed, None));
         self.progress.learn(Resolved::new(place, outputs))
     }
 
@@ -88,14 +96,23 @@ impl<'a> Unfolding<'a> {
     }
 
     /// Whether each known job is needed, as the present job graph has it: it has not ended, or made a File or Directory in a known
-    /// output of the process. After a refused `learn` it answers that refusal.
-    pub fn needed(&self) -> Result<Vec<bool>, UnfoldError>
+    /// output of the process. The flags are kept until the next `learn`. After a refused one it answers that refusal.
+    pub fn needed(&mut self) -> Result<Vec<bool>, UnfoldError>
+        ensures same { self.new ≡ self.old }
         ensures ok { IfOk result (λ needed. needed.items
-            ≡ needed_among self.now.learned self.now.outs self.now.known) }
-        ensures goes_on { OnOk result (self.now.refused ≡ None) }
-        ensures err { IfErr result (Blames self.now.refused) }
+            ≡ needed_among self.old.learned self.old.outs self.old.known) }
+        ensures goes_on { OnOk result (self.old.refused ≡ None) }
+        ensures err { IfErr result (Blames self.old.refused) }
     {
-        self.progress.needed()
+        let alloc = self.progress.alloc;
+        if let Some(kept) = &self.needed {
+            let copy = Vec::from_slice(alloc, kept.as_slice())?;
+            return Ok(copy);
+        }
+        let needed = self.progress.needed()?;
+        let copy = Vec::from_slice(alloc, needed.as_slice())?;
+        mem::drop(mem::replace(&mut self.needed, Some(copy)));
+        Ok(needed)
     }
 
     /// Returns the present job graph: the known jobs with these costs, as a planner takes them. After a refused `learn` it

@@ -1,6 +1,6 @@
 //! How the steps of a workflow go on, where a job below one of them has ended: that step is walked anew, and then those that waited for it. All
 //! others are left as they were.
-ghost use Rattle.std.specs.Prelude.{◌≡◌, ◌&&◌, ◌∷◌, ◌++◌, ◌<◌, [], ◌||◌, ℕ, IfOk, List, MatchOption, OnOk, bytes_eq, false, get_or, is_some, length, map, not, true};
+ghost use Rattle.std.specs.Prelude.{◌≡◌, ◌&&◌, ◌∷◌, ◌<◌, [], ◌||◌, ℕ, IfOk, List, MatchOption, OnOk, bytes_eq, false, get_or, is_some, length, map, not, true};
 ghost use Rattle.std.specs.List.{flat_map, list_all, list_any};
 ghost use Rattle.job_graph.specs.Apart.{step_ids_differ};
 ghost use Rattle.job_graph.specs.Equations.{step_walk};

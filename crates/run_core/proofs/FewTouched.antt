@@ -22,7 +22,7 @@ get_before [] more n within = absurd (omega (arith, within))
 get_before (c ∷ costs) more zero within = refl
 get_before (c ∷ costs) more (suc n) within = get_before costs more n (omega (arith, within))
 
-get_last : (costs : List Costs) (c : Costs) (n : ℕ) → length costs ≡ n → slice_get (costs ++ c ∷ []) n ≡ Some c
+pub get_last : (costs : List Costs) (c : Costs) (n : ℕ) → length costs ≡ n → slice_get (costs ++ c ∷ []) n ≡ Some c
 get_last [] c zero many = refl
 get_last [] c (suc n) many = absurd (omega (arith, many))
 get_last (x ∷ costs) c zero many = absurd (omega (arith, many))

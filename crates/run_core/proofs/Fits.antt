@@ -1,18 +1,21 @@
 -- Which jobs of the graph of the plan in force cost there what they cost now, by what is touched.
 use Rattle.std.specs.Prelude.{◌&&◌, ◌<◌, ◌≤◌, not, length, slice_get}
-use Rattle.std.proofs.Common.{◌≡◌, ◌≢◌, ◌∙◌, ◌∷◌, ℕ, zero, suc, Bool, List, [], Option, Some, None, map, refl, sym, ap, subst, arith}
+use Rattle.std.proofs.Common.{◌≡◌, ◌≢◌, ◌∙◌, ◌∷◌, ℕ, zero, suc, Bool, true, List, [], Option, Some, None, map, refl, sym, ap, ap₂, subst, arith}
 use Rattle.std.proofs.Props.{props}
 use Rattle.std.specs.List.{zip}
+use Rattle.job_graph.specs.Jobs.{Job}
 use Rattle.job_graph.specs.PresentJobGraph.{present_job_graph, vertex_of}
 use Rattle.job_graph.specs.Unfold.{Known, Resolved, known_from}
 use Rattle.job_graph.specs.Words.{Fields}
 use Rattle.job_graph.specs.declared.costs.Costs.{Costs}
+use Rattle.job_graph.specs.declared.unfolding.Unfolding.{Unfolding}
 use Rattle.job_rows.specs.declared.row.Row.{Row}
 use Rattle.plan_checker.specs.Graph.{vertex}
 use Rattle.plan_checker.specs.declared.vertex.Vertex.{Vertex}
 use Rattle.plan_keeper.specs.declared.planned.Planned.{Planned}
 use Rattle.run_plan.specs.Costs.{LoadRates, costs_of}
-use Rattle.run_plan.specs.Touched.{costs_in, graph_in}
+use Rattle.run_plan.specs.Touched.{AreOfFirst, costs_in, graph_in}
+use Rattle.run_plan.proofs.First.{present_first}
 use Rattle.run_rules.specs.declared.request.RecordAnswer.{RecordAnswer}
 use Rattle.run_core.specs.declared.job_states.JobState.{JobState}
 use Rattle.run_core.specs.declared.state.Course.{Course}
@@ -20,6 +23,7 @@ use Rattle.run_core.specs.declared.state.Given.{Given}
 use Rattle.run_core.specs.inner.Archives.{archived_in}
 use Rattle.run_core.specs.inner.Fits.{Fits, costs_by}
 use Rattle.run_core.specs.inner.FoundRows.{row_in, rows_after}
+use Rattle.run_core.specs.inner.Known.{known_in}
 use Rattle.run_core.specs.inner.JobStates.{brought_in, loaded_in, staged_in, state_at, waits_in}
 use Rattle.run_core.specs.inner.Planning.{IsPlanAt}
 use Rattle.run_core.specs.inner.Touched.{IsTouched, Touches, TouchesBelow}
@@ -152,18 +156,31 @@ fits_planned given course made plan n within left =
     compute_of None = 0
     compute_of (Some c) = c.compute
 
+-- and its parents are those of the jobs that are known
+pub first_planned : (given : Given) (old new : Course) (made : Planned) → IsPlanAt given old made → new.known ≡ old.known → AreOfFirst made.graph (known_in new.known)
+first_planned given old new made plan same =
+    let kept = plan.kept in
+    subst (λ (known : Option Unfolding). AreOfFirst made.graph (known_in known)) (sym (same ∙ plan.known))
+    (subst (λ (graph : List Vertex). AreOfFirst graph kept.known) (sym plan.planned.its_graph) (present_first kept.learned kept.known kept.outs plan.costs))
+
 -- two proofs of it are the same
 fits_once : (rates : LoadRates) (keep : Bool) (jobs : List JobState) (lost : List (List ℕ)) (rows : List (Option Row)) (touched : Option (List ℕ)) (planned : Option Planned)
     (some other : Fits rates keep jobs lost rows touched planned) → some ≡ other
 fits_once rates keep jobs lost rows touched planned = Prim.hlevel props
 
+first_once : (is_first : Bool) (graph : List Vertex) (jobs : List Job) (some other : is_first ≡ true → AreOfFirst graph jobs) → some ≡ other
+first_once is_first graph jobs = Prim.hlevel props
+
 -- a course is the same where its jobs are
-pub same_course : (course : Course) (jobs : List JobState) (fits : Fits course.rates course.keep jobs course.lost.items course.rows course.touched course.planned) → jobs ≡ course.jobs →
-    record course { jobs = jobs; fits = fits } ≡ course
-same_course course jobs fits is =
-    subst (λ (states : List JobState). (its : Fits course.rates course.keep states course.lost.items course.rows course.touched course.planned) → record course { jobs = states; fits = its } ≡ course)
+pub same_course : (course : Course) (jobs : List JobState) (fits : Fits course.rates course.keep jobs course.lost.items course.rows course.touched course.planned)
+    (first : course.of_first ≡ true → AreOfFirst (graph_in course.planned) (known_in course.known)) → jobs ≡ course.jobs →
+    record course { jobs = jobs; fits = fits; first = first } ≡ course
+same_course course jobs fits first is =
+    subst (λ (states : List JobState). (its : Fits course.rates course.keep states course.lost.items course.rows course.touched course.planned) → record course { jobs = states; fits = its; first = first } ≡ course)
     (sym is)
     (λ its.
-    ap (λ (f : Fits course.rates course.keep course.jobs course.lost.items course.rows course.touched course.planned). record course { fits = f })
-    (fits_once course.rates course.keep course.jobs course.lost.items course.rows course.touched course.planned its course.fits))
+    ap₂ (λ (f : Fits course.rates course.keep course.jobs course.lost.items course.rows course.touched course.planned)
+    (g : course.of_first ≡ true → AreOfFirst (graph_in course.planned) (known_in course.known)). record course { fits = f; first = g })
+    (fits_once course.rates course.keep course.jobs course.lost.items course.rows course.touched course.planned its course.fits)
+    (first_once course.of_first (graph_in course.planned) (known_in course.known) first course.first))
     fits

@@ -1,7 +1,7 @@
 -- Whether fields hold a File or Directory.
 use Rattle.std.proofs.Common.{◌≡◌, ◌∙◌, Bool, List, [], ◌∷◌, map, refl, ap, rules}
 use Rattle.plain_data.specs.ByName.{map_values}
-use Rattle.cwl_value.specs.declared.value.Value.{Value, the_lemmas}
+use Rattle.cwl_value.specs.declared.value.Value.{the_lemmas}
 use Rattle.cwl_value.specs.declared.value.Value as value
 use Rattle.job_graph.specs.Words.{Fields}
 use Rattle.cwl_value.specs.Fileless.{some_true}

@@ -11,6 +11,7 @@ pub mod Inside
 pub mod FoundRows
 pub mod JobStates
 pub mod Keeps
+pub mod Known
 pub mod Knows
 pub mod LowestWaiting
 pub mod Marks

@@ -1,11 +1,9 @@
 //! What comes next where nothing is due.
 ghost use Rattle.std.specs.Prelude.{◌≡◌, ◌<◌, ◌+◌, ◌^◌, false, Some, IsSome, IfOk, MatchOption, OnErr, length, slice_get};
-ghost use Rattle.job_graph.specs.KnownJobs.{job_of as job_seen};
 ghost use Rattle.job_graph.specs.Jobs.{Job};
 ghost use Rattle.run_core.specs.declared.state.Given.{Given as Run};
 ghost use Rattle.run_core.specs.inner.Course.{known_in as jobs_in};
 ghost use Rattle.run_core.specs.inner.Picks.{Chooses, MayBeNext, NoneToStage, Picks, Stages, sources_in};
-ghost use Rattle.run_core.specs.inner.Turn.{collects, ends};
 ghost use Rattle.run_rules.specs.Folders.{in_folder};
 ghost use Rattle.staging.specs.Plan.{IsPlan};
 

@@ -1,5 +1,5 @@
 //! What the events of a run bring about.
-ghost use Rattle.std.specs.Prelude.{◌≡◌, ◌<◌, ◌≤◌, ◌+◌, ◌^◌, ◌∷◌, [], None, Some, Contains, IsSome, IfOk, OnErr, OnOk, length, map, slice_get, vec_len, vec_capacity};
+ghost use Rattle.std.specs.Prelude.{◌≡◌, ◌<◌, ◌+◌, ◌^◌, [], None, Some, Contains, IfOk, OnErr, OnOk, length, map, slice_get, vec_len, vec_capacity};
 ghost use Rattle.job_graph.specs.declared.unfolding.Unfolding.{Unfolding as Held};
 ghost use Rattle.job_graph.specs.KnownJobs.{job_of as job_seen, known_of};
 ghost use Rattle.run_core.specs.inner.Course.{GivesUp, TakesOut, failure_in, families_in, known_in, nothing_past, past_of, place_at, put_note, store_note, with_answer, with_end, with_fault, with_load, with_loss, with_note, with_staging, with_start, drop_note, key_in};
@@ -46,6 +46,7 @@ pub(crate) fn at_first<'a>(alloc: Global) -> Course<'a>
         keep: false,
         plans: Vec::new(alloc),
         known: None,
+        of_first: false,
         end: None,
     }
 }

@@ -46,7 +46,8 @@ pub(crate) fn few_in(
 fn kept_for(given: &Given<'_>, course: &Course<'_>) -> Option<usize>
     ensures { IfSome result (IsKeptFor given.now course.now) }
 {
-    if course.keep != given.options.keep || !course.rates.are(&given.rates) {
+    let same_keep = course.keep == given.options.keep;
+    if !course.of_first || !same_keep || !course.rates.are(&given.rates) {
         return None;
     }
     match &course.planned {

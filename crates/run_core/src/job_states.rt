@@ -1,5 +1,5 @@
 //! What has become of each job.
-ghost use Rattle.std.specs.Prelude.{◌≡◌, ◌<◌, ◌≤◌, ◌+◌, ◌^◌, ℕ, [], OnOk, MatchOption, length, map};
+ghost use Rattle.std.specs.Prelude.{◌≡◌, ◌<◌, ◌+◌, ◌^◌, ℕ, [], OnOk, MatchOption, length, map};
 ghost use Rattle.std.specs.List.{list_all};
 ghost use Rattle.job_graph.specs.KnownJobs.{known_of};
 ghost use Rattle.run_core.specs.inner.JobStates.{IsLowest, NoneReady, NoneWaits, brought_in, given_up_in, loaded_in, missed_in, is_ready, is_there, staged_in, state_at, waits_in};

@@ -1,8 +1,8 @@
 //! The input files are measured before anything else, and then the first jobs are known.
-ghost use Rattle.std.specs.Prelude.{◌≡◌, ◌<◌, ◌+◌, ◌^◌, [], OnErr, OnOk, IfOk, None, length, reverse};
+ghost use Rattle.std.specs.Prelude.{◌≡◌, ◌<◌, ◌+◌, ◌^◌, [], OnErr, OnOk, IfOk};
 ghost use Rattle.job_graph.specs.Equations.{walker};
 ghost use Rattle.job_graph.specs.Paths.{input_paths};
-ghost use Rattle.run_core.specs.inner.Course.{nothing_past, past_of};
+ghost use Rattle.run_core.specs.inner.Course.{past_of};
 ghost use Rattle.run_core.specs.inner.Knows.{IsUnfolded};
 ghost use Rattle.run_core.specs.inner.Measures.{Begins, MeasuresOn, TakesMeasure};
 ghost use Rattle.run_core.specs.inner.Turns.{PutsNext};
@@ -106,6 +106,7 @@ fn know<'a>(
 {
     match Unfolding::new(alloc, given.process, given.inputs, measures) {
         Ok(unfolding) => {
+            course.of_first = false;
             course.known = Some(unfolding);
             Ok(())
         }

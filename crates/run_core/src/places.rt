@@ -77,7 +77,7 @@ fn moved_items(
 ) -> Result<Items<Value>, AllocError>
     ensures { IfOk result (λ found. found ≡ map (value_moved (place_by way.entry)) items.now) }
 {
-    let mut found = Items::new(alloc);
+    let mut found = Items::from_vec(Vec::with_capacity(alloc, items.len())?);
     for item in items.as_slice() {
         found.push(moved(alloc, way, item)?)?;
     }
@@ -93,7 +93,7 @@ pub(crate) fn moved_fields(
 ) -> Result<Keyed<Value>, AllocError>
     ensures { IfOk result (λ found. found ≡ fields_moved (place_by way.entry) fields.now) }
 {
-    let mut found = Vec::new(alloc);
+    let mut found = Vec::with_capacity(alloc, fields.len())?;
     for field in fields.as_slice() {
         let name = field.0.copied(alloc)?;
         found.push((name, moved(alloc, way, &field.1)?))?;

@@ -1,13 +1,13 @@
 //! The plan in force: the Least plan of the present job graph, made anew at each planning point.
-ghost use Rattle.std.specs.Prelude.{◌≡◌, ◌<◌, ◌↔◌, All, IfErr, IfOk, IsTrue, MatchBool, MatchOption, OnErr, OnOk, Some, [], length, option_map};
+ghost use Rattle.std.specs.Prelude.{◌≡◌, ◌<◌, All, IfOk, MatchBool, MatchOption, OnOk, Some, [], length};
 ghost use Rattle.job_graph.specs.PresentJobGraph.{AreWithin};
-ghost use Rattle.job_graph.specs.Unfold.{Fault};
 ghost use Rattle.plan_checker.specs.Plan.{mark};
 ghost use Rattle.run_core.specs.inner.Course.{known_in as jobs_in, past_of, with_plan};
 ghost use Rattle.run_core.specs.inner.Marks.{is_compute, is_load, marks_in};
 ghost use Rattle.run_core.specs.inner.Planning.{AllThere, AreCosts, IsLentTo, IsPlanAt, IsToldPlan, PlansNothing, Replans, SomeAway, costs_at};
 ghost use Rattle.run_core.specs.inner.Few.{AreFew};
 ghost use Rattle.run_core.specs.inner.Fits.{Fits};
+ghost use Rattle.run_plan.specs.Touched.{AreOfFirst};
 
 use crate::PlanNote;
 use crate::course::known_in;
@@ -42,8 +42,9 @@ pub(crate) fn replan(
 
 /// The plan is in force from now on, and noted.
 fn keep(given: &Given<'_>, course: &mut Course<'_>, made: KeptPlan) -> Result<(), AllocError>
-    requires { Fits given.now.rates given.now.options.keep course.old.jobs course.old.lost.items
-        course.old.rows (Some []) (Some made) }
+    requires fits { Fits given.now.rates given.now.options.keep course.old.jobs
+        course.old.lost.items course.old.rows (Some []) (Some made) }
+    requires first { AreOfFirst made.graph (jobs_in course.old.known) }
     ensures past { OnOk result (past_of course.new
         ≡ with_plan given.now.answers made (past_of course.old)) }
     ensures known { course.new.known ≡ course.old.known }
@@ -60,6 +61,7 @@ fn keep(given: &Given<'_>, course: &mut Course<'_>, made: KeptPlan) -> Result<()
             course.touched = Touched::none();
             course.rates = given.rates.copied();
             course.keep = given.options.keep;
+            course.of_first = true;
             Ok(())
         }
         Err(_) => {
@@ -115,9 +117,10 @@ fn planned_few(
     ensures folders { course.new.folders ≡ course.old.folders }
 {
     course.touched = Touched::all();
+    course.of_first = false;
     let changed = few.changed.as_slice();
     let later = few.later.as_slice();
-    match &course.known {
+    match &mut course.known {
         None => Ok(None),
         Some(known) => match plan_touched(alloc, known, changed, later, &mut course.planned) {
             Ok(None) => planned_whole(alloc, given, course),
@@ -141,7 +144,8 @@ fn planned_whole(
 {
     let costs = costs_in(alloc, given, course)?;
     course.touched = Touched::all();
-    match &course.known {
+    course.of_first = false;
+    match &mut course.known {
         None => Ok(None),
         Some(known) => if_planned(plan_on(alloc, known, costs.as_slice(), &mut course.planned)),
     }

@@ -2,7 +2,7 @@ ghost use Rattle.std.specs.Prelude.{◌≡◌, ◌≢◌, ◌↔◌, ◌+◌, �
 ghost use Rattle.proc_host.specs.declared.call.HostRequest.{HostRequest};
 ghost use Rattle.run_rules.specs.declared.outcome.RunFault.{RunFault};
 ghost use Rattle.run_rules.specs.declared.request.Request.{Request};
-ghost use Rattle.run_rules.specs.Answers.{MayAnswer, flying_after};
+ghost use Rattle.run_rules.specs.Answers.{MayAnswer};
 ghost use Rattle.run_rules.specs.Blame.{BlamesRightly, Rise, given_tickets};
 ghost use Rattle.run_rules.specs.Reports.{entries_of, reported, Concludes};
 ghost use Rattle.job_graph.specs.Words.{JobPlace};
@@ -394,6 +394,7 @@ fn noted_in(course: Course<'_>) -> Noted
         keep: _,
         plans,
         known,
+        of_first: _,
         end,
     } = course;
     mem::drop(tickets);

@@ -1,7 +1,10 @@
 //! Where a run is: what its events have brought about so far, and what it waits for.
 
 ghost use Rattle.std.proofs.Props.{props};
+ghost use Rattle.std.specs.Prelude.{◌≡◌, true};
 ghost use Rattle.run_core.specs.inner.Fits.{Fits};
+ghost use Rattle.run_core.specs.inner.Known.{known_in};
+ghost use Rattle.run_plan.specs.Touched.{AreOfFirst, graph_in};
 
 use crate::found_rows::FoundRows;
 use crate::job_states::JobStates;
@@ -175,6 +178,9 @@ pub(crate) struct Course<'a> {
     pub plans: Vec<PlanNote>,
     /// The jobs that are known, once all input files are measured.
     pub known: Option<Unfolding<'a>>,
+    /// Whether the graph of the plan in force is one of the first of them.
+    pub of_first: bool,
+    ghost first: { of_first ≡ true → AreOfFirst (graph_in planned) (known_in known) } by { Prim.hlevel props },
     /// The failure that settled the end.
     pub end: Option<Result<Outcome, RunFault>>,
 }

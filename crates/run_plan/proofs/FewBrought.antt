@@ -3,7 +3,10 @@ use Rattle.std.proofs.Common.{◌≡◌, ◌≢◌, ◌∙◌, ℕ, zero, suc, �
 use Rattle.std.proofs.Math.Seq.{take-suc}
 use Rattle.std.proofs.lemmas.Bool.{cases_eq}
 use Rattle.std.proofs.lemmas.List.{get_or-append_right, get_or_append_left, get_or-map, get_or-set_other, get_or-set_same, get_or-take, get_or_default, length-append, length-map, length-set, length-take-le, map-set, same_lists, set-get_or, set_past, take_all, take_more}
+use Rattle.job_graph.specs.Jobs.{Job}
+use Rattle.job_graph.specs.KnownJobs.{known_of}
 use Rattle.job_graph.specs.PresentJobGraph.{AreWithin}
+use Rattle.job_graph.specs.Unfold.{Known, known_from}
 use Rattle.job_graph.specs.declared.costs.Costs.{Costs}
 use Rattle.job_graph.specs.declared.growth.KnownJob.{KnownJob}
 use Rattle.plan_checker.specs.Graph.{no_vertex, vertex}
@@ -12,8 +15,8 @@ use Rattle.plan_checker.proofs.SumsBelow.{below_or_last}
 use Rattle.plan_keeper.specs.Kept.{IsKeptApart}
 use Rattle.plan_keeper.specs.declared.planned.Planned.{Planned}
 use Rattle.run_plan.specs.inner.Again.{IsBrought, vertex_of, vertices_of}
-use Rattle.run_plan.specs.Touched.{costs_in, patched}
-use Rattle.run_plan.specs.inner.Flagged.{AreFlaggedBelow, parents_at}
+use Rattle.run_plan.specs.Touched.{AreOfFirst, costs_in, patched}
+use Rattle.run_plan.specs.inner.Flagged.{AreFlaggedBelow, HaveParents, parents_at}
 use Rattle.run_plan.proofs.Brought.{vertices_count}
 
 -- one more that has changed
@@ -45,6 +48,32 @@ costs_brought old new number parents costs needed there many brought =
 
 pub costs_past : (graph : List Vertex) (number : ℕ) (costs : Costs) → length graph ≤ number → map costs_in graph ≡ set (map costs_in graph) number costs
 costs_past graph number costs past = sym (set_past (map costs_in graph) number costs (omega (arith, past, length-map graph costs_in)))
+
+-- where it keeps its parents, so do all
+pub parents_brought : (known : List KnownJob) (old new : List Vertex) (number : ℕ) (costs : Costs) (needed : Bool) → length new ≡ length old → HaveParents known old →
+    IsBrought old new number (vertex_of (parents_at known number) costs needed) → HaveParents known new
+parents_brought known old new number costs needed many before brought i hi =
+    ⊎_elim
+    (λ (e : i ≡ number). ap (λ (n : ℕ). (vertex new n).parents) e ∙ ap (λ (v : Vertex). v.parents) brought.there ∙ ap (parents_at known) (sym e))
+    (λ (e : i ≢ number). ap (λ (v : Vertex). v.parents) (brought.others i e) ∙ before i (omega (arith, hi, many)))
+    (cases_eq i number)
+
+parents_by_job : (known : List KnownJob) → map (λ (k : Known). k.parents) (map known_of known) ≡ map (λ (k : KnownJob). k.parents) known
+parents_by_job [] = refl
+parents_by_job (k ∷ known) = ap (λ (rest : List (List ℕ)). k.parents ∷ rest) (parents_by_job known)
+
+-- the parents that the jobs have as the definitions see them
+pub have_parents : (graph : List Vertex) (jobs : List Job) (known : List KnownJob) → map known_of known ≡ known_from [] jobs → AreOfFirst graph jobs → HaveParents known graph
+have_parents graph jobs known is first i hi =
+    first.1 i hi ∙ ap (λ (all : List Known). get_or (map (λ (k : Known). k.parents) all) i []) (sym is) ∙ ap (λ (all : List (List ℕ)). get_or all i []) (parents_by_job known)
+
+-- one whose flag is right
+pub flagged_there : (graph : List Vertex) (number : ℕ) (parents : List ℕ) (job : Vertex) (needed : Bool) → job ≡ vertex graph number → (vertex graph number).parents ≡ parents →
+    job ≡ vertex_of job.parents (costs_in job) needed → IsBrought graph graph number (vertex_of parents (costs_in (vertex graph number)) needed)
+flagged_there graph number parents job needed read its is = record {
+  there = sym read ∙ is ∙ ap (λ (v : Vertex). vertex_of v.parents (costs_in v) needed) read ∙ ap (λ (ps : List ℕ). vertex_of ps (costs_in (vertex graph number)) needed) its;
+  others = λ i differ. refl;
+}
 
 -- at its own costs
 pub costs_same : (old new : List Vertex) (number : ℕ) (parents : List ℕ) (needed : Bool) → number < length old → length new ≡ length old →

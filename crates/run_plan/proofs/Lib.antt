@@ -1,3 +1,4 @@
 mod Brought
 mod FewBrought
+pub mod First
 mod RoundedUp

@@ -22,16 +22,17 @@ use std::mem;
 /// refusal, and the last plan stays.
 pub fn plan_on(
     alloc: Global,
-    known: &Unfolding<'_>,
+    known: &mut Unfolding<'_>,
     costs: &[Costs],
     last: &mut Option<KeptPlan>,
 ) -> Result<KeptPlan, UnfoldError>
-    requires each { length costs.now ≡ length known.now.known }
+    requires each { length costs.now ≡ length known.old.known }
     requires within { All AreWithin costs.now }
     ensures ok { IfOk result (IsPlanOf
-        (present_job_graph known.now.learned known.now.known known.now.outs costs.now)) }
+        (present_job_graph known.old.learned known.old.known known.old.outs costs.now)) }
     ensures taken { OnOk result (last.new ≡ None) }
-    ensures err { IfErr result (Blames known.now.refused) }
+    ensures err { IfErr result (Blames known.old.refused) }
+    ensures known { known.new ≡ known.old }
     ensures stays { IfErr result (λ error. error ≢ UnfoldError.OutOfMemory
         → last.new ≡ last.old) }
 {
@@ -179,7 +180,7 @@ pub(crate) fn bring_one(
 }
 
 /// Whether these are the same numbers. Most jobs have no parents, and need no comparison.
-pub(crate) fn are_same(some: &[usize], others: &[usize]) -> bool
+fn are_same(some: &[usize], others: &[usize]) -> bool
     ensures { IsTrue result → some.now ≡ others.now }
 {
     if some.is_empty() {

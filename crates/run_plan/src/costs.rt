@@ -1,5 +1,5 @@
 //! What it costs to have the outputs of a job, as a run knows it.
-ghost use Rattle.std.specs.Prelude.{◌≡◌, ◌≤◌, Bool, IsTrue, None, option_copied};
+ghost use Rattle.std.specs.Prelude.{◌≡◌, ◌≤◌, ◌↔◌, Bool, IsTrue, None, option_copied};
 ghost use Rattle.std.specs.Option.{ForSome};
 ghost use Rattle.job_graph.specs.PresentJobGraph.{AreWithin};
 ghost use Rattle.run_plan.specs.Costs.{LoadRates, cost_to_compute, cost_to_load, costs_of, load_cost_of};
@@ -52,7 +52,7 @@ impl Rates {
 
     /// Whether these are the same rates.
     pub fn are(&self, other: &Rates) -> bool
-        ensures { IsTrue result → self.now ≡ other.now }
+        ensures { IsTrue result ↔ self.now ≡ other.now }
     {
         self.base == other.base && self.rate == other.rate
     }

@@ -7,10 +7,10 @@ ghost use Rattle.plan_checker.specs.Graph.{vertex};
 ghost use Rattle.plan_keeper.specs.Kept.{IsKeptApart};
 ghost use Rattle.run_plan.specs.inner.Again.{IsBrought, vertex_of, vertices_of};
 ghost use Rattle.run_plan.specs.Planned.{IsPlanOf};
-ghost use Rattle.run_plan.specs.Touched.{costs_after, costs_in, graph_in, patched};
-ghost use Rattle.run_plan.specs.inner.Flagged.{AreFlaggedBelow, parents_at};
+ghost use Rattle.run_plan.specs.Touched.{AreOfFirst, costs_after, costs_in, graph_in, patched};
+ghost use Rattle.run_plan.specs.inner.Flagged.{AreFlaggedBelow, HaveParents, parents_at};
 
-use crate::again::{added, are_same, bring_one};
+use crate::again::{added, bring_one};
 use crate::kept::KeptPlan;
 use job_graph::{Costs, KnownJob, UnfoldError, Unfolding};
 use plain_data::Items;
@@ -19,23 +19,26 @@ use plan_keeper::{Planned, kept_is_planned};
 use std::alloc::{AllocError, Global};
 use std::mem;
 
-/// Plans the present job graph of the jobs that are known by the last plan, and takes that away. The jobs of its graph cost what
-/// they do there, but for these that have changed, each with its number; the later jobs have these costs. Returns no plan where
-/// the last one can't be brought up to date. After a refused `learn` it answers that refusal, and the last plan stays.
+/// Plans the present job graph of the jobs that are known by the last plan, and takes that away. Its graph must be one of the first
+/// of these jobs. They cost what they do there, but for these that have changed, each with its number; the later jobs have these costs.
+/// Returns no plan where the last one can't be brought up to date. After a refused `learn` it answers that refusal, and the last
+/// plan stays.
 pub fn plan_touched(
     alloc: Global,
-    known: &Unfolding<'_>,
+    known: &mut Unfolding<'_>,
     changed: &[(usize, Costs)],
     later: &[Costs],
     last: &mut Option<KeptPlan>,
 ) -> Result<Option<KeptPlan>, UnfoldError>
-    requires each { length (graph_in last.old) + length later.now ≡ length known.now.known }
-    ensures ok { IfOk result (λ found. IfSome found (IsPlanOf (present_job_graph known.now.learned
-        known.now.known known.now.outs
+    requires each { length (graph_in last.old) + length later.now ≡ length known.old.known }
+    requires first { AreOfFirst (graph_in last.old) known.old.known }
+    ensures ok { IfOk result (λ found. IfSome found (IsPlanOf (present_job_graph known.old.learned
+        known.old.known known.old.outs
         (costs_after (graph_in last.old) changed.now later.now)))) }
     ensures taken { OnOk result (last.new ≡ None) }
-    ensures goes_on { OnOk result (known.now.refused ≡ None) }
-    ensures err { IfErr result (Blames known.now.refused) }
+    ensures goes_on { OnOk result (known.old.refused ≡ None) }
+    ensures err { IfErr result (Blames known.old.refused) }
+    ensures known { known.new ≡ known.old }
     ensures stays { IfErr result (λ error. error ≢ UnfoldError.OutOfMemory
         → last.new ≡ last.old) }
 {
@@ -55,7 +58,13 @@ fn apart_of(last: Option<KeptPlan>) -> Option<Planned>
 {
     match last {
         None => None,
-        Some(kept) => kept.if_apart(),
+        Some(kept) => match kept.into_apart() {
+            Ok(made) => Some(made),
+            Err(made) => {
+                mem::drop(made);
+                None
+            }
+        },
     }
 }
 
@@ -70,6 +79,7 @@ fn plan_few(
 ) -> Result<Option<KeptPlan>, AllocError>
     requires kept { IsKeptApart made }
     requires each { length made.graph + length later.now ≡ length known.now.known }
+    requires first { AreOfFirst made.graph known.now.known }
     requires needed { needed.now ≡ needed_among known.now.learned known.now.outs known.now.known }
     ensures { IfOk result (λ found. IfSome found (IsPlanOf (present_job_graph known.now.learned
         known.now.known known.now.outs (costs_after made.graph changed.now later.now)))) }
@@ -92,6 +102,7 @@ fn brought(
 ) -> Result<Option<Planned>, AllocError>
     requires kept { IsKeptApart made }
     requires each { length made.graph + length later.now ≡ length known.now }
+    requires parents { HaveParents known.now made.graph }
     requires needed { length needed.now ≡ length known.now }
     ensures { IfOk result (λ found. IfSome found (λ more. IsKeptApart more
         × (more.graph ≡ vertices_of known.now (costs_after made.graph changed.now later.now)
@@ -117,9 +128,11 @@ fn bring_changed(
 ) -> bool
     requires kept { IsKeptApart made.old }
     requires known { length made.old.graph ≤ length known.now }
+    requires parents { HaveParents known.now made.old.graph }
     requires needed { length needed.now ≡ length known.now }
     ensures kept { IsKeptApart made.new }
     ensures count { length made.new.graph ≡ length made.old.graph }
+    ensures parents { IsTrue result → HaveParents known.now made.new.graph }
     ensures costs { IsTrue result → map costs_in made.new.graph
         ≡ patched (map costs_in made.old.graph) changed.now }
 {
@@ -143,9 +156,11 @@ fn bring_costs(
 ) -> bool
     requires kept { IsKeptApart made.old }
     requires known { length made.old.graph ≤ length known.now }
+    requires parents { HaveParents known.now made.old.graph }
     requires needed { length needed.now ≡ length known.now }
     ensures kept { IsKeptApart made.new }
     ensures count { length made.new.graph ≡ length made.old.graph }
+    ensures parents { IsTrue result → HaveParents known.now made.new.graph }
     ensures costs { IsTrue result → map costs_in made.new.graph
         ≡ slice_set (map costs_in made.old.graph) number costs }
 {
@@ -155,8 +170,14 @@ fn bring_costs(
     if !are_free(costs) {
         return false;
     }
-    let parents = known[number].parents.as_slice();
-    bring_one(alloc, made, number, parents, costs, needed[number])
+    bring_one(
+        alloc,
+        made,
+        number,
+        parents_of(known, number),
+        costs,
+        needed[number],
+    )
 }
 
 /// Whether these are the costs of a free vertex.
@@ -170,6 +191,7 @@ fn are_free(costs: Costs) -> bool
 fn bring_flags(alloc: Global, made: &mut Planned, known: &[KnownJob<'_>], needed: &[bool]) -> bool
     requires kept { IsKeptApart made.old }
     requires known { length made.old.graph ≤ length known.now }
+    requires parents { HaveParents known.now made.old.graph }
     requires needed { length needed.now ≡ length known.now }
     ensures kept { IsKeptApart made.new }
     ensures count { length made.new.graph ≡ length made.old.graph }
@@ -198,6 +220,7 @@ fn bring_flag(
     requires kept { IsKeptApart made.old }
     requires there { number < length made.old.graph }
     requires known { length made.old.graph ≤ length known.now }
+    requires parents { (vertex made.old.graph number).parents ≡ parents_at known.now number }
     requires needed { length needed.now ≡ length known.now }
     ensures kept { IsKeptApart made.new }
     ensures count { length made.new.graph ≡ length made.old.graph }
@@ -205,20 +228,27 @@ fn bring_flag(
         (vertex_of (parents_at known.now number) (costs_in (vertex made.old.graph number))
         (slice_index_or needed.now number false)) }
 {
-    let parents = known[number].parents.as_slice();
     let vertex = &made.graph.vertices()[number];
-    if is_flagged(vertex, parents, needed[number]) {
+    if is_flagged(vertex, needed[number]) {
         return true;
     }
     let costs = costs_in(vertex);
-    bring_one(alloc, made, number, parents, costs, needed[number])
+    bring_one(
+        alloc,
+        made,
+        number,
+        parents_of(known, number),
+        costs,
+        needed[number],
+    )
 }
 
-/// Whether a vertex has these parents, and is needed or not as this says.
-fn is_flagged(vertex: &Vertex, parents: &[usize], needed: bool) -> bool
-    ensures { IsTrue result → vertex.now ≡ vertex_of parents.now (costs_in vertex.now) needed }
+/// Whether a vertex is needed or not as this says.
+fn is_flagged(vertex: &Vertex, needed: bool) -> bool
+    ensures { IsTrue result → vertex.now
+        ≡ vertex_of vertex.now.parents (costs_in vertex.now) needed }
 {
-    vertex.needed == needed && are_same(vertex.parents.as_slice(), parents)
+    vertex.needed == needed
 }
 
 /// What a vertex costs.
@@ -272,11 +302,19 @@ fn later_vertex(
     ensures { IfOk result (λ vertex. vertex ≡ vertex_of (parents_at known.now number) costs
         (slice_index_or needed.now number false)) }
 {
-    let parents = known[number].parents.as_slice();
+    let parents = Vec::from_slice(alloc, parents_of(known, number))?;
     Ok(Vertex {
         load: costs.load,
         compute: costs.compute,
-        parents: Items::from_vec(Vec::from_slice(alloc, parents)?),
+        parents: Items::from_vec(parents),
         needed: needed[number],
     })
+}
+
+/// The numbers of the parents of a known job.
+fn parents_of<'k>(known: &'k [KnownJob<'_>], number: usize) -> &'k [usize]
+    requires { number < length known.now }
+    ensures { result.now ≡ parents_at known.now number }
+{
+    known[number].parents.as_slice()
 }

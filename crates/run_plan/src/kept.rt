@@ -1,10 +1,9 @@
 //! A plan that is kept from one planning point to the next.
-ghost use Rattle.std.specs.Prelude.{◌≡◌, IfOk, IfSome};
+ghost use Rattle.std.specs.Prelude.{◌≡◌, IfOk};
 ghost use Rattle.plan_keeper.specs.Kept.{IsKeptApart};
 
 use plan_keeper::Planned;
 use std::marker::Model;
-use std::mem;
 
 /// A plan in force, which contracts see as the plan. Where the vertices of its graph stand apart, it is brought up to date at
 /// those that have changed, and not made anew.
@@ -67,21 +66,9 @@ impl KeptPlan {
         self.stands_apart
     }
 
-    /// The plan, if it can be brought up to date.
-    pub(crate) fn if_apart(self) -> Option<Planned>
-        ensures { IfSome result (λ made. IsKeptApart made × (made.graph ≡ self.graph)) }
-    {
-        if self.stands_apart {
-            Some(self.made)
-        } else {
-            mem::drop(self.made);
-            None
-        }
-    }
-
-    /// The plan, if it can be brought up to date: if the vertices of its graph stand apart.
+    /// The plan, as one that can be brought up to date where the vertices of its graph stand apart.
     pub(crate) fn into_apart(self) -> Result<Planned, Planned>
-        ensures { IfOk result IsKeptApart }
+        ensures { IfOk result (λ made. IsKeptApart made × (made.graph ≡ self.graph)) }
     {
         if self.stands_apart {
             Ok(self.made)

@@ -1,7 +1,7 @@
 -- The plan that is made after looks is the first one of a run.
 use Rattle.std.specs.Prelude.{◌<◌, ◌≤◌, ◌&&◌, IfErr, IfOk, not, slice_get}
 use Rattle.std.specs.List.{list_all, list_any, zip}
-use Rattle.std.proofs.Common.{◌≡◌, ◌∙◌, ◌⊎◌, inl, inr, ◌+◌, ℕ, zero, suc, Bool, true, false, List, [], ◌∷◌, ◌++◌, length, map, Option, Some, None, Result, Ok, Err, refl, sym, ap, subst, arith}
+use Rattle.std.proofs.Common.{◌≡◌, ◌∙◌, ◌⊎◌, inl, inr, ◌+◌, ℕ, suc, Bool, true, false, List, [], ◌∷◌, ◌++◌, length, map, Option, Some, None, Result, Ok, Err, refl, sym, ap, subst, arith}
 use Rattle.std.proofs.lemmas.Bool.{cases_lt}
 use Rattle.std.proofs.lemmas.List.{length-map, length_push}
 use Rattle.job_graph.specs.declared.costs.Costs.{Costs}
@@ -21,6 +21,7 @@ use Rattle.plan_checker.specs.declared.vertex.Vertex.{Vertex}
 use Rattle.run_plan.specs.Costs.{costs_of}
 use Rattle.run_plan.specs.Planned.{IsPlanOf}
 use Rattle.plan_keeper.specs.declared.planned.Planned.{Planned as Made}
+use Rattle.run_core.proofs.FewTouched.{get_before, get_last}
 use Rattle.run_rules.specs.Allowed.{IsFree}
 use Rattle.run_rules.specs.Costs.{costs_at, graph_at}
 use Rattle.run_rules.specs.Events.{Event, are_looked_up, has_no_find, is_archived, is_at_hand, is_held, measures, resolved, row_at, unfolding_at}
@@ -201,17 +202,6 @@ first_told setting t known rows l costs are its at (Err error) is blames told to
     subst (λ (r : Result Planned PlanFault). Tells setting t r) (sym told_is) (plan_blamed setting t known rows l error blames)
 
 -- one more cost
-
-get_before : (costs more : List Costs) (n : ℕ) → n < length costs → slice_get (costs ++ more) n ≡ slice_get costs n
-get_before [] more n within = absurd (omega (arith, within))
-get_before (c ∷ costs) more zero within = refl
-get_before (c ∷ costs) more (suc n) within = get_before costs more n (omega (arith, within))
-
-get_last : (costs : List Costs) (c : Costs) (n : ℕ) → length costs ≡ n → slice_get (costs ++ c ∷ []) n ≡ Some c
-get_last [] c zero many = refl
-get_last [] c (suc n) many = absurd (omega (arith, many))
-get_last (x ∷ costs) c zero many = absurd (omega (arith, many))
-get_last (x ∷ costs) c (suc n) many = get_last costs c n (omega (arith, many))
 
 pub one_more_cost : (options : Options) (rows : List (Option Row)) (n : ℕ) (costs new : List Costs) (c : Costs) → AreCostsOf options rows n costs → c ≡ cost_in options rows n →
     new ≡ costs ++ c ∷ [] → AreCostsOf options rows (n + 1) new

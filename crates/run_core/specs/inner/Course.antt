@@ -22,15 +22,11 @@ use Rattle.run_core.specs.declared.state.Flight.{Flight}
 use Rattle.run_core.specs.declared.job_states.JobState.{JobState}
 use Rattle.run_core.specs.declared.state.Kept.{Kept}
 pub use Rattle.run_core.specs.inner.Archives.{is_lost_in}
+pub use Rattle.run_core.specs.inner.Known.{known_in}
 use Rattle.run_core.specs.inner.FoundRows.{row_in, rows_after}
 use Rattle.run_core.specs.inner.JobStates.{brought_in, given_up_in, loaded_in, missed_in, staged_in}
 
--- the known jobs, by number
-abbrev pub known_in : Option Unfolding → List Job
-known_in None = []
-known_in (Some kept) = kept.known
-
--- and with the numbers of their parents
+-- the known jobs, with the numbers of their parents
 abbrev pub families_in : Option Unfolding → List Known
 families_in known = known_from [] (known_in known)
 

@@ -1,5 +1,5 @@
 -- The vertices that have the parents of their jobs, and are needed where those are.
-use Rattle.std.specs.Prelude.{◌≡◌, ◌<◌, ℕ, Bool, false, List, [], map, slice_index_or}
+use Rattle.std.specs.Prelude.{◌≡◌, ◌<◌, ℕ, Bool, false, List, [], length, map, slice_index_or}
 use Rattle.job_graph.specs.declared.growth.KnownJob.{KnownJob}
 use Rattle.plan_checker.specs.Graph.{vertex}
 use Rattle.plan_checker.specs.declared.vertex.Vertex.{Vertex}
@@ -9,6 +9,10 @@ use Rattle.run_plan.specs.inner.Again.{vertex_of}
 -- the parents of the known job of a number
 abbrev pub parents_at : List KnownJob → ℕ → List ℕ
 parents_at known n = slice_index_or (map (λ job. job.parents) known) n []
+
+-- the vertices have the parents of these jobs
+abbrev pub HaveParents : List KnownJob → List Vertex → Type 0
+HaveParents known graph = (i : ℕ) → i < length graph → (vertex graph i).parents ≡ parents_at known i
 
 -- the first n vertices have the parents of these jobs, and are needed or not as this says
 abbrev pub AreFlaggedBelow : List KnownJob → List Bool → List Vertex → ℕ → Type 0

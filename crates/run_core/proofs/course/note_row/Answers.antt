@@ -14,4 +14,5 @@ invariant_of-course-2 c =
           (subst (λ (touched : Option (List ℕ)). TouchesBelow (length (graph_in old.planned)) c.args.number touched c.touched_too-touched.result) c.replace-touched.ensures.value
           c.touched_too-touched.ensures)
           old.fits;
+      first = old.first;
     }

@@ -1,4 +1,4 @@
-use Rattle.std.proofs.Common.{refl}
+use Rattle.std.proofs.Common.{◌∙◌, Some, ap, refl, sym}
 use Rattle.run_core.proofs.FewPlans.{few_made, nothing_by_error, whole_ok}
 use Rattle.run_core.proofs.Lists.{if_ok}
 use Rattle.run_core.proofs.planning.planned_few.Goals as goal
@@ -10,7 +10,7 @@ returns-in-Ok-Some-clause-made c =
 
 pub returns-in-Ok-None-clause-made : goal.returns-in-Ok-None-clause-made
 returns-in-Ok-None-clause-made c =
-    whole_ok c.args.given.now c.args.course.now _ c.planned_whole.result c.planned_whole.ensures.made c.in-Some.known refl c.in-Some.is c.in-Ok-None.ensures.goes_on refl refl refl
+    whole_ok c.args.given.now c.args.course.now _ c.planned_whole.result c.planned_whole.ensures.made c.in-Some.known (ap Some c.plan_touched.ensures.known ∙ sym c.in-Some.is) c.in-Some.is c.in-Ok-None.ensures.goes_on refl refl refl
 
 pub returns-clause-made : goal.returns-clause-made
 returns-clause-made c =

@@ -45,4 +45,4 @@ returns-clause-made c =
 
 pub returns-clause-rest : goal.returns-clause-rest
 returns-clause-rest c =
-    if_ok c.if_planned.result (lent_by_told c.args.course.now _ c.plan_on.new.last c.plan_on.result refl refl c.plan_on.ensures.taken c.plan_on.ensures.stays) c.if_planned.ensures
+    if_ok c.if_planned.result (lent_by_told c.args.course.now _ c.plan_on.new.last c.plan_on.result refl (ap Some c.plan_on.ensures.known ∙ sym c.in-Some.is) c.plan_on.ensures.taken c.plan_on.ensures.stays) c.if_planned.ensures

@@ -4,7 +4,7 @@ use Rattle.plan_keeper.specs.declared.planned.Planned.{Planned}
 use Rattle.run_core.specs.inner.Course.{Past, with_plan}
 use Rattle.run_core.specs.inner.Fits.{Fits}
 use Rattle.run_core.specs.inner.Planning.{AllThere, IsLentTo, IsPlanAt, PlansNothing, SomeAway, fails, plans, stays}
-use Rattle.run_core.proofs.Fits.{fits_planned}
+use Rattle.run_core.proofs.Fits.{first_planned, fits_planned}
 use Rattle.run_core.proofs.Lists.{where_ok}
 use Rattle.run_core.proofs.planning.replan.Goals as goal
 
@@ -34,10 +34,17 @@ returns-in-Some-clause-replans c =
     (c.keep.ensures.known ∙ left.known))
     c.keep.ensures.past
 
-pub keep-requires : goal.keep-requires
-keep-requires c =
+pub keep-requires-clause-fits : goal.keep-requires-clause-fits
+keep-requires-clause-fits c =
     let left = subst (IsLentTo c.args.course.now c.planned_anew.new.course) c.in-Some.is c.in_ok-planned_anew.ensures.rest in
     let fits = fits_planned c.args.given.now c.args.course.now c.in-Some.made
     (subst (λ (made : Option Planned). MatchOption made (PlansNothing c.args.course.now) (IsPlanAt c.args.given.now c.args.course.now)) c.in-Some.is
     c.in_ok-planned_anew.ensures.made) in
     subst (λ (past : Past). Fits c.args.given.now.rates c.args.given.now.options.keep past.jobs past.lost past.rows (Some []) (Some c.in-Some.made)) (sym left.past) fits
+
+pub keep-requires-clause-first : goal.keep-requires-clause-first
+keep-requires-clause-first c =
+    let left = subst (IsLentTo c.args.course.now c.planned_anew.new.course) c.in-Some.is c.in_ok-planned_anew.ensures.rest in
+    first_planned c.args.given.now c.args.course.now c.planned_anew.new.course c.in-Some.made
+    (subst (λ (made : Option Planned). MatchOption made (PlansNothing c.args.course.now) (IsPlanAt c.args.given.now c.args.course.now)) c.in-Some.is
+    c.in_ok-planned_anew.ensures.made) left.known

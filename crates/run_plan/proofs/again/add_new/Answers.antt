@@ -6,7 +6,7 @@ use Rattle.plan_checker.specs.Graph.{vertex}
 use Rattle.plan_checker.specs.declared.vertex.Vertex.{Vertex}
 use Rattle.plan_keeper.specs.Kept.{IsKeptApart}
 use Rattle.plan_keeper.specs.declared.planned.Planned.{Planned}
-use Rattle.run_plan.specs.inner.Again.{vertex_of, vertices_of}
+use Rattle.run_plan.specs.inner.Again.{vertices_of}
 use Rattle.run_plan.proofs.Brought.{all_first, first_more, vertex_at, vertices_count}
 use Rattle.run_plan.proofs.again.add_new.Goals as goal
 

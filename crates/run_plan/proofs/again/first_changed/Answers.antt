@@ -3,7 +3,7 @@ use Rattle.std.proofs.Common.{rules, ◌≡◌, ◌∙◌, ◌<◌, ℕ, Bool, f
 use Rattle.std.proofs.lemmas.List.{get_or_default, get_or_read}
 use Rattle.job_graph.specs.declared.costs.Costs.{Costs}
 use Rattle.job_graph.specs.declared.growth.KnownJob.{KnownJob}
-use Rattle.plan_checker.specs.Graph.{no_vertex, vertex}
+use Rattle.plan_checker.specs.Graph.{no_vertex}
 use Rattle.plan_checker.specs.declared.vertex.Vertex.{Vertex}
 use Rattle.run_plan.specs.inner.Again.{vertex_of, vertices_of}
 use Rattle.run_plan.proofs.Brought.{same_more, vertex_at}

@@ -4,7 +4,7 @@ use Rattle.plan_checker.specs.Graph.{vertex}
 use Rattle.run_plan.specs.Touched.{costs_in}
 use Rattle.run_plan.specs.inner.Again.{IsBrought, vertex_of}
 use Rattle.run_plan.specs.inner.Flagged.{parents_at}
-use Rattle.run_plan.proofs.FewBrought.{costs_same, flagged_more}
+use Rattle.run_plan.proofs.FewBrought.{costs_same, flagged_more, parents_brought}
 use Rattle.run_plan.proofs.few.bring_flags.Goals as goal
 
 pub loop-number-preserved : goal.loop-number-preserved
@@ -17,6 +17,7 @@ loop-number-preserved c =
     record {
       kept = c.bring_flag.ensures.kept;
       count = c.bring_flag.ensures.count ∙ c.loop-number.invariant.count;
+      parents = parents_brought c.args.known.now old new number _ _ c.bring_flag.ensures.count c.loop-number.invariant.parents now;
       costs = costs_same old new number _ _ there c.bring_flag.ensures.count now ∙ c.loop-number.invariant.costs;
       flagged = flagged_more c.args.known.now c.args.needed.now old new number c.loop-number.invariant.flagged now;
     }

@@ -12,7 +12,12 @@ use Rattle.run_plan.specs.inner.Again.{vertices_of}
 use Rattle.run_plan.specs.Planned.{IsPlanOf}
 use Rattle.run_plan.specs.Touched.{costs_after}
 use Rattle.run_plan.proofs.Brought.{are_present}
+use Rattle.run_plan.proofs.FewBrought.{have_parents}
 use Rattle.run_plan.proofs.few.plan_few.Goals as goal
+
+pub brought-requires-clause-parents : goal.brought-requires-clause-parents
+brought-requires-clause-parents c =
+    have_parents c.args.made.graph c.args.known.now.known c.known.result.now c.known.ensures.parents c.requires.first
 
 pub returns-in-Some : goal.returns-in-Some
 returns-in-Some c =

@@ -10,7 +10,7 @@ use Rattle.job_graph.proofs.Knowing.{refused_none}
 use Rattle.job_graph.proofs.unfolding.Unfolding.graph.Goals as goal
 
 pub graph-requires-clause-stands : goal.graph-requires-clause-stands
-graph-requires-clause-stands c = c.self.invariant
+graph-requires-clause-stands c = c.self.invariant.stands
 
 pub graph-requires-clause-each : goal.graph-requires-clause-each
 graph-requires-clause-each c =

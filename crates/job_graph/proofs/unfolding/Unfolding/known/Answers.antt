@@ -10,4 +10,4 @@ returns-clause-jobs c = ap jobs_in c.as_slice.ensures.value ∙ ap (λ (held : U
 
 pub returns-clause-parents : goal.returns-clause-parents
 returns-clause-parents c =
-    ap (map known_of) c.as_slice.ensures.value ∙ parents_seen c.self.inside.progress c.self.invariant ∙ ap (λ (held : UnfoldedSoFar). known_from [] held.known) c.self.view_is
+    ap (map known_of) c.as_slice.ensures.value ∙ parents_seen c.self.inside.progress c.self.invariant.stands ∙ ap (λ (held : UnfoldedSoFar). known_from [] held.known) c.self.view_is
