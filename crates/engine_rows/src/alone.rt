@@ -202,12 +202,14 @@ pub fn ended(flying: &[u64], chance: &mut Chance) -> HostAnswer
 /// What the job at a place left behind.
 pub fn left_at(alloc: Global, place: &JobPlace) -> Result<Items<Found>, AllocError> {
     let size = number_of(alloc, place)?;
+    let name = Text::from_text(alloc, "o")?;
+    let sum = Text::from_string(format!(in alloc; "{size:040}")?);
     let mut found = Items::new(alloc);
     found.push(Found {
-        name: Text::from_text(alloc, "o")?,
+        name,
         is_dir: false,
         size,
-        sum: Text::from_string(format!(in alloc; "{size:040}")?),
+        sum,
     })?;
     Ok(found)
 }

@@ -1,57 +1,42 @@
-use crate::list::List;
+use crate::machine::listing::{put_listing, put_measure};
 use crate::script::{listing_of, text_at};
 use plain_data::{Items, Keyed};
-use row_io::{Row, RowFault, quoted};
+use row_io::{AnswerText, Row, RowFault};
 use serde_json::Value as Json;
-use staging::{Found, Measure, Move, StagePlan, listing_in};
+use staging::{Measure, Move, StagePlan, listing_in};
 use std::alloc::Global;
+use std::mem;
 
-/// A copy of the row's listing.
-pub fn listing(alloc: Global, row: &Row) -> Result<String, RowFault> {
+/// Writes a copy of the row's listing.
+pub fn put_listing_copy(alloc: Global, row: &Row, out: &mut AnswerText) -> Result<(), RowFault> {
     let found = listing_of(alloc, row.json("found")?)?;
-    let copy = listing_in(alloc, &found)?;
-    listing_json(alloc, &copy)
+    let copy = listing_in(alloc, &found);
+    mem::drop(found);
+    put_listing(out, copy?.as_slice());
+    Ok(())
 }
 
-/// A listing as JSON, as it is written in a script.
-pub fn listing_json(alloc: Global, listing: &Items<Found>) -> Result<String, RowFault> {
-    let mut list = List::new(alloc)?;
-    for found in listing.as_slice() {
-        let found = found_json(alloc, found)?;
-        list.push(found.as_str())?;
+/// Writes a measure, as it stands in a script.
+pub fn put_scripted(out: &mut AnswerText, measure: &Measure) {
+    let is_folder = matches!(measure, Measure::Folder(_));
+    if is_folder {
+        out.put("{\"folder\":");
     }
-    Ok(list.close()?)
-}
-
-/// A measure as JSON, as it is written in a script.
-pub fn measure_json(alloc: Global, measure: &Measure) -> Result<String, RowFault> {
-    match measure {
-        Measure::Absent => Ok(String::from_str(alloc, "null")?),
-        Measure::File { size, sum } => {
-            let sum = quoted(alloc, sum.as_str())?;
-            Ok(format!(in alloc; "[{size},{sum}]")?)
-        }
-        Measure::Folder(found) => {
-            let found = listing_json(alloc, found)?;
-            Ok(format!(in alloc; "{{\"folder\":{found}}}")?)
-        }
+    put_measure(out, measure);
+    if is_folder {
+        out.put("}");
     }
 }
 
-fn found_json(alloc: Global, found: &Found) -> Result<String, RowFault> {
-    let mut list = List::new(alloc)?;
-    list.push_text(alloc, found.name.as_str())?;
-    list.push(if found.is_dir { "true" } else { "false" })?;
-    list.push_number(alloc, found.size)?;
-    list.push_text(alloc, found.sum.as_str())?;
-    Ok(list.close()?)
-}
-
-/// A copy of the row's plan: each move's source and target.
-pub fn plan(alloc: Global, row: &Row) -> Result<String, RowFault> {
+/// Writes a copy of the row's plan: each move's source and target.
+pub fn put_plan_copy(alloc: Global, row: &Row, out: &mut AnswerText) -> Result<(), RowFault> {
     let plan = plan_of(alloc, row)?;
-    let copy = plan.clone_in(alloc)?;
-    moves_json(alloc, &copy)
+    let copy = plan.clone_in(alloc);
+    mem::drop(plan);
+    let copy = copy?;
+    put_moves(out, copy.moves.as_slice());
+    mem::drop(copy);
+    Ok(())
 }
 
 fn plan_of(alloc: Global, row: &Row) -> Result<StagePlan, RowFault> {
@@ -71,17 +56,15 @@ fn move_of(alloc: Global, json: &Json) -> Result<Move, RowFault> {
     Ok(Move { source, target })
 }
 
-fn moves_json(alloc: Global, plan: &StagePlan) -> Result<String, RowFault> {
-    let mut list = List::new(alloc)?;
-    for planned in plan.moves.as_slice() {
-        let planned = move_json(alloc, planned)?;
-        list.push(planned.as_str())?;
+fn put_moves(out: &mut AnswerText, moves: &[Move]) {
+    out.put("[");
+    for planned in moves {
+        out.put_comma();
+        out.put("[");
+        out.put_quoted(planned.source.as_str());
+        out.put(",");
+        out.put_quoted(planned.target.as_str());
+        out.put("]");
     }
-    Ok(list.close()?)
-}
-
-fn move_json(alloc: Global, planned: &Move) -> Result<String, RowFault> {
-    let source = quoted(alloc, planned.source.as_str())?;
-    let target = quoted(alloc, planned.target.as_str())?;
-    Ok(format!(in alloc; "[{source},{target}]")?)
+    out.put("]");
 }

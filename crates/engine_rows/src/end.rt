@@ -1,109 +1,152 @@
-use crate::list::numbers;
 use collected_outputs::OutputFault;
 use cwl_value::{JobPlace, Value, canonical_text, place_text};
 use input_files::ContentsFault;
-use plain_data::Text;
-use row_io::{RowFault, quoted};
+use row_io::{AnswerText, RowFault};
 use run_core::{Cause, CollectCause, Outcome, Report, RunFault};
-use std::alloc::{AllocError, Global};
+use std::alloc::Global;
 
-/// How a run ended, as JSON.
-pub fn end_json(alloc: Global, end: &Result<Report, RunFault>) -> Result<String, RowFault> {
+/// Writes how a run ended, as JSON.
+pub fn put_end(alloc: Global, out: &mut AnswerText, end: &Result<Report, RunFault>) {
     match end {
-        Ok(report) => outcome_json(alloc, &report.outcome),
-        Err(fault) => fault_json(alloc, fault),
+        Ok(report) => put_outcome(alloc, out, &report.outcome),
+        Err(fault) => put_run_fault(alloc, out, fault),
     }
 }
 
-fn outcome_json(alloc: Global, outcome: &Outcome) -> Result<String, RowFault> {
+fn put_outcome(alloc: Global, out: &mut AnswerText, outcome: &Outcome) {
     match outcome {
-        Outcome::Success(outputs) => success_json(alloc, outputs),
-        Outcome::PermanentFail(place, cause) => permanent_json(alloc, place, cause),
-        Outcome::TemporaryFail(place) => temporary_json(alloc, place),
+        Outcome::Success(outputs) => put_success(alloc, out, outputs),
+        Outcome::PermanentFail(place, cause) => {
+            out.put("{\"permanentFail\":");
+            put_place(alloc, out, place);
+            out.put(",\"cause\":");
+            put_cause(alloc, out, cause);
+            out.put("}");
+        }
+        Outcome::TemporaryFail(place) => {
+            out.put("{\"temporaryFail\":");
+            put_place(alloc, out, place);
+            out.put("}");
+        }
     }
 }
 
-fn success_json(alloc: Global, outputs: &Value) -> Result<String, RowFault> {
-    let outputs = canonical_text(alloc, outputs)?;
-    Ok(format!(in alloc; "{{\"success\":{}}}", outputs.as_str())?)
+fn put_success(alloc: Global, out: &mut AnswerText, outputs: &Value) {
+    out.put("{\"success\":");
+    match canonical_text(alloc, outputs) {
+        Ok(text) => out.put(text.as_str()),
+        Err(_) => out.fail(RowFault::OutOfMemory),
+    }
+    out.put("}");
 }
 
-fn permanent_json(alloc: Global, place: &JobPlace, cause: &Cause) -> Result<String, RowFault> {
-    let place = place_json(alloc, place)?;
-    let cause = cause_json(alloc, cause)?;
-    Ok(format!(in alloc; "{{\"permanentFail\":{place},\"cause\":{cause}}}")?)
+/// Writes the place of a job, as JSON.
+pub fn put_place(alloc: Global, out: &mut AnswerText, place: &JobPlace) {
+    match place_text(alloc, place) {
+        Ok(text) => out.put_quoted(text.as_str()),
+        Err(_) => out.fail(RowFault::OutOfMemory),
+    }
 }
 
-fn temporary_json(alloc: Global, place: &JobPlace) -> Result<String, RowFault> {
-    let place = place_json(alloc, place)?;
-    Ok(format!(in alloc; "{{\"temporaryFail\":{place}}}")?)
+fn put_cause(alloc: Global, out: &mut AnswerText, cause: &Cause) {
+    let mut text = AnswerText::new(alloc);
+    put_cause_words(&mut text, cause);
+    put_text(out, text);
 }
 
-/// The place of a job, as JSON.
-pub fn place_json(alloc: Global, place: &JobPlace) -> Result<String, RowFault> {
-    let place = place_text(alloc, place)?;
-    quoted(alloc, place.as_str())
+/// Writes a text that was written piece by piece, as JSON.
+pub fn put_text(out: &mut AnswerText, text: AnswerText) {
+    match text.finish() {
+        Ok(text) => out.put_quoted(text.as_str()),
+        Err(fault) => out.fail(fault),
+    }
 }
 
-fn cause_json(alloc: Global, cause: &Cause) -> Result<String, RowFault> {
-    let text = cause_text(alloc, cause)?;
-    quoted(alloc, text.as_str())
-}
-
-fn cause_text(alloc: Global, cause: &Cause) -> Result<Text, AllocError> {
-    Ok(Text::from_string(match cause {
-        Cause::Equation(cause) => equation_text(alloc, cause)?,
-        Cause::Build(fault) => format!(in alloc; "Build {}", fault.code())?,
-        Cause::Exit(Some(code)) => format!(in alloc; "Exit {code}")?,
-        Cause::Exit(None) => String::from_str(alloc, "Exit by a signal")?,
-        Cause::Collect(CollectCause::Input(fault)) => contents_text(alloc, fault)?,
-        Cause::Collect(CollectCause::Output(fault)) => collect_text(alloc, fault)?,
-    }))
-}
-
-/// The code of a step that has no value, or the input that has none.
-fn equation_text(alloc: Global, cause: &job_graph::Cause) -> Result<String, AllocError> {
+fn put_cause_words(out: &mut AnswerText, cause: &Cause) {
     match cause {
-        job_graph::Cause::Missing(input) => format!(in alloc; "Missing {}", input.as_str()),
-        job_graph::Cause::Secondary(input) => format!(in alloc; "Secondary {}", input.as_str()),
-        job_graph::Cause::Kind(input) => format!(in alloc; "Kind {}", input.as_str()),
-        job_graph::Cause::Link(fault) => String::from_str(alloc, fault.code()),
-        job_graph::Cause::Reference(fault) => String::from_str(alloc, fault.code()),
-        job_graph::Cause::Scatter(fault) => String::from_str(alloc, fault.code()),
+        Cause::Equation(cause) => put_equation(out, cause),
+        Cause::Build(fault) => put_both(out, "Build ", fault.code()),
+        Cause::Exit(Some(code)) => {
+            out.put("Exit ");
+            out.put_whole(*code as i64);
+        }
+        Cause::Exit(None) => out.put("Exit by a signal"),
+        Cause::Collect(CollectCause::Input(fault)) => put_contents(out, fault),
+        Cause::Collect(CollectCause::Output(fault)) => put_collect(out, fault),
     }
 }
 
-/// The code of refused contents, and the input.
-fn contents_text(alloc: Global, fault: &ContentsFault) -> Result<String, AllocError> {
+fn put_both(out: &mut AnswerText, first: &str, second: &str) {
+    out.put(first);
+    out.put(second);
+}
+
+/// Writes the code of a step that has no value, or the input that has none.
+fn put_equation(out: &mut AnswerText, cause: &job_graph::Cause) {
+    match cause {
+        job_graph::Cause::Missing(input) => put_both(out, "Missing ", input.as_str()),
+        job_graph::Cause::Secondary(input) => put_both(out, "Secondary ", input.as_str()),
+        job_graph::Cause::Kind(input) => put_both(out, "Kind ", input.as_str()),
+        job_graph::Cause::Link(fault) => out.put(fault.code()),
+        job_graph::Cause::Reference(fault) => out.put(fault.code()),
+        job_graph::Cause::Scatter(fault) => out.put(fault.code()),
+    }
+}
+
+/// Writes the code of refused contents, and the input.
+fn put_contents(out: &mut AnswerText, fault: &ContentsFault) {
     match fault {
-        ContentsFault::TooLong(input) => format!(in alloc; "Collect G4 {}", input.as_str()),
-        ContentsFault::NotUtf8(input) => format!(in alloc; "Collect G9 {}", input.as_str()),
+        ContentsFault::TooLong(input) => put_both(out, "Collect G4 ", input.as_str()),
+        ContentsFault::NotUtf8(input) => put_both(out, "Collect G9 ", input.as_str()),
     }
 }
 
-/// The code of a refusal, and the output that it was met at.
-fn collect_text(alloc: Global, fault: &OutputFault) -> Result<String, AllocError> {
-    let code = fault.fault.code();
-    match &fault.output {
-        None => format!(in alloc; "Collect {code}"),
-        Some(output) => format!(in alloc; "Collect {code} {}", output.as_str()),
+/// Writes the code of a refusal, and the output that it was met at.
+fn put_collect(out: &mut AnswerText, fault: &OutputFault) {
+    put_both(out, "Collect ", fault.fault.code());
+    if let Some(output) = &fault.output {
+        put_both(out, " ", output.as_str());
     }
 }
 
-fn fault_json(alloc: Global, fault: &RunFault) -> Result<String, RowFault> {
+fn put_run_fault(alloc: Global, out: &mut AnswerText, fault: &RunFault) {
     match fault {
         RunFault::Host(fault, running) => {
-            let running = numbers(alloc, running.as_slice())?;
-            Ok(format!(in alloc; "{{\"fault\":\"{}\",\"running\":{running}}}", fault.code())?)
+            put_code(out, fault.code());
+            out.put(",\"running\":");
+            put_numbers(out, running.as_slice());
+            out.put("}");
         }
         RunFault::Record(refusal) => {
-            Ok(format!(in alloc; "{{\"fault\":\"{}\"}}", refusal.code())?)
+            put_code(out, refusal.code());
+            out.put("}");
         }
         RunFault::Mismatch(place) => {
-            let place = place_json(alloc, place)?;
-            Ok(format!(in alloc; "{{\"fault\":\"Mismatch\",\"place\":{place}}}")?)
+            put_code(out, "Mismatch");
+            out.put(",\"place\":");
+            put_place(alloc, out, place);
+            out.put("}");
         }
-        RunFault::TooManyJobs => Ok(String::from_str(alloc, "{\"fault\":\"TooManyJobs\"}")?),
-        RunFault::OutOfMemory => Err(RowFault::OutOfMemory),
+        RunFault::TooManyJobs => {
+            put_code(out, "TooManyJobs");
+            out.put("}");
+        }
+        RunFault::OutOfMemory => out.fail(RowFault::OutOfMemory),
     }
+}
+
+// Begins the object that tells of a fault.
+fn put_code(out: &mut AnswerText, code: &str) {
+    out.put("{\"fault\":");
+    out.put_quoted(code);
+}
+
+/// Writes the JSON list of these numbers.
+pub fn put_numbers(out: &mut AnswerText, all: &[u64]) {
+    out.put("[");
+    for number in all {
+        out.put_comma();
+        out.put_natural(*number);
+    }
+    out.put("]");
 }

@@ -1,5 +1,5 @@
 //! A host over real children and real files that fails one call.
-ghost use Rattle.std.specs.Prelude.{◌≡◌, []};
+ghost use Rattle.std.specs.Prelude.{◌≡◌};
 
 use crate::lost::{Loss, Lost, is_due, lose};
 use command_line::Launch;
@@ -7,23 +7,24 @@ use plain_data::{Items, Text};
 use proc_host::{
     ChildEnd, Entry, Host, HostError, HostFault, HostRequest, Ticket, fetch_request, store_request,
 };
-use process_machine::Machine;
+use process_machine::{Machine, World};
 use staging::{Found, Measure, StagePlan};
 use std::alloc::Global;
 use std::marker::Model;
+use std::process::Stdio;
 
 /// A host that passes so many calls on to a machine, fails the next one, and passes the rest on. A call that fails does nothing.
 #[derive(Drop)]
-pub struct Failing<'a> {
+pub struct Failing<R: World> {
     alloc: Global,
-    inner: Machine<&'a HostRuntime>,
+    inner: Machine<R>,
     // how many calls are passed on before the one that fails, where one is still to fail
     left: Option<u64>,
     loss: Loss,
     lost: Option<Lost>,
 }
 
-impl<'a> Model for Failing<'a> {
+impl<R: World> Model for Failing<R> {
     ghost use Rattle.engine_rows.specs.Told.{told, IsWithin};
     ghost use Rattle.process_machine.specs.Machine.{MachineState};
     ghost use Rattle.cwl_value.specs.contracts.value.Value as value;
@@ -41,15 +42,10 @@ impl<'a> Model for Failing<'a> {
     ghost invariant = { λ fields. IsWithin fields.lost fields.inner.log };
 }
 
-impl<'a> Failing<'a> {
+impl<R: World> Failing<R> {
     /// A host that passes on to this machine, and fails the call after so many, or none.
-    pub fn new(
-        alloc: Global,
-        inner: Machine<&'a HostRuntime>,
-        left: Option<u64>,
-        loss: Loss,
-    ) -> Failing<'a>
-        ensures { result ≡ inner.entry }
+    pub fn new(alloc: Global, inner: Machine<R>, left: Option<u64>, loss: Loss) -> Failing<R>
+        ensures { result ≡ inner }
     {
         Failing {
             alloc,
@@ -66,7 +62,10 @@ impl<'a> Failing<'a> {
     }
 }
 
-impl<'a> Host for Failing<'a> {
+impl<R: World> Host for Failing<R>
+where
+    R::File: Into<Stdio>,
+{
     ghost log = { λ state. state.log };
 
     ghost running = { λ state. state.running };

@@ -1,22 +1,19 @@
 //! Runs of generated workflows, in which each plan is compared with the best of all plans.
 ghost use Rattle.std.specs.Prelude.{◌≡◌, ◌≢◌, IfOk, OnOk};
 ghost use Rattle.proc_host.specs.Answers.{CanAnswer};
-ghost use Rattle.run_core.specs.Limits.{IsWithinLimits};
 ghost use Rattle.run_rules.specs.Answers.{CanTell, MayAnswer};
 ghost use Rattle.run_rules.specs.declared.request.Request.{Request as Asks};
 
 use crate::alone::{Chance, answer_to, take_answer};
 use crate::cheapest::least_cost;
 use crate::generator::row_of;
-use crate::run::{Case, case_of, options_with};
+use crate::run::{Case, case_of, core_of};
 use cwl_value::JobPlace;
 use job_rows::{MemoryRecord, Record, Row as Kept};
 use plan_checker::{Charges, Graph, Plan, check, read_certificate, write_certificate};
 use proc_host::{HostAnswer, HostRequest};
-use row_io::{Row, RowFault};
-use run_core::{
-    Answer, Options, Outcome, RecordAnswer, RecordRequest, Report, Request, RunCore, RunFault,
-};
+use row_io::{AnswerText, Row, RowFault};
+use run_core::{Answer, Outcome, RecordAnswer, RecordRequest, Report, Request, RunCore, RunFault};
 use staging::listing_in;
 use std::alloc::{AllocError, Global};
 use std::mem;
@@ -33,20 +30,23 @@ const NOTHING: Seen = Seen {
     differ: 0,
 };
 
-/// Compares the plan of each planning point in the runs of so many generated workflows (`workflows`). Returns whether there were at least so
+/// Compares the plan of each planning point in the runs of so many generated workflows (`workflows`). Writes whether there were at least so
 /// many plans (`at_least`), each of which has another certificate than the one before it, and how many differ: those whose certificate `check`
 /// does not take, once it was written and read, and those that cost more or less than the best of all plans of their graph. Each workflow is
 /// run twice over one record, which forgets some rows and archives, and gives each row a cost of its own.
-pub fn answer(alloc: Global, row: &Row) -> Result<String, RowFault> {
+pub fn put_answer(alloc: Global, row: &Row, out: &mut AnswerText) -> Result<(), RowFault> {
     let workflows = row.natural("workflows")?;
     let at_least = row.natural("at_least")?;
     let mut seen = NOTHING;
     for number in 0..workflows {
         seen = seen_with(seen, seen_at(alloc, number)?);
     }
-    let enough = at_least <= seen.compared;
-    let differ = seen.differ;
-    Ok(format!(in alloc; "{{\"enough\":{enough},\"differ\":{differ}}}")?)
+    out.put("{\"enough\":");
+    out.put_flag(at_least <= seen.compared);
+    out.put(",\"differ\":");
+    out.put_natural(seen.differ);
+    out.put("}");
+    Ok(())
 }
 
 fn seen_with(seen: Seen, other: Seen) -> Seen {
@@ -93,22 +93,7 @@ fn seen_once(
     chance: &mut Chance,
     rows: &mut MemoryRecord,
 ) -> Result<Seen, RowFault> {
-    let options = options_with(alloc, row, true)?;
-    seen_by(alloc, case, options, chance, rows)
-}
-
-fn seen_by(
-    alloc: Global,
-    case: &Case,
-    options: Options,
-    chance: &mut Chance,
-    rows: &mut MemoryRecord,
-) -> Result<Seen, RowFault>
-    requires { IsWithinLimits options }
-{
-    let Ok(mut core) = RunCore::new(alloc, case.process.as_process(), &case.inputs, options) else {
-        return Err(RowFault::OutOfMemory);
-    };
+    let mut core = core_of(alloc, row, case, true)?;
     match followed(alloc, &mut core, chance, rows) {
         Ok(seen) => {
             ended(core)?;
@@ -205,10 +190,13 @@ fn seen_in(alloc: Global, graph: &Graph, text: String, last: &mut String) -> See
 
 /// The cost of the plan of a certificate, where it is one.
 fn cost_in(alloc: Global, text: &[u8]) -> Option<u64> {
-    match read_certificate(alloc, text) {
-        Ok((graph, plan, charges)) => check(&graph, &plan, &charges).ok(),
+    let read = read_certificate(alloc, text);
+    let cost = match &read {
+        Ok((graph, plan, charges)) => check(graph, plan, charges).ok(),
         Err(_) => None,
-    }
+    };
+    mem::drop(read);
+    cost
 }
 
 /// An answer to what a machine asks next, where the record answers for itself and each file that was archived is there.
@@ -270,11 +258,11 @@ fn told(
 }
 
 /// Keeps four rows of five, with another cost, and the archives of most of these.
-fn keep(
+fn keep<K: Record>(
     alloc: Global,
     row: &Kept,
     chance: &mut Chance,
-    rows: &mut MemoryRecord,
+    rows: &mut K,
 ) -> Result<(), AllocError> {
     if chance.below(5) == 0 {
         return Ok(());
@@ -283,5 +271,6 @@ fn keep(
     kept.cost = 1 + chance.below(12);
     kept.archived = chance.below(4) > 0;
     let _put = rows.put(&kept);
+    mem::drop(kept);
     Ok(())
 }

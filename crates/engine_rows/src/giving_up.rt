@@ -1,16 +1,15 @@
 //! Runs that give up, since memory ran out outside of the machine.
-ghost use Rattle.std.specs.Prelude.{◌≡◌, ◌≢◌, IfOk, OnOk};
+ghost use Rattle.std.specs.Prelude.{◌≡◌, IfOk, OnOk};
 ghost use Rattle.proc_host.specs.Answers.{CanAnswer};
-ghost use Rattle.run_core.specs.Limits.{IsWithinLimits};
 ghost use Rattle.run_rules.specs.Answers.{MayAnswer};
 ghost use Rattle.run_rules.specs.declared.request.Request.{Request as Asks};
 
 use crate::alone::{Chance, drive_for, ended, take_answer};
-use crate::end::end_json;
-use crate::run::{Case, case_of, options_of};
+use crate::end::put_end;
+use crate::run::{Case, core_of};
 use proc_host::{HostAnswer, HostRequest};
-use row_io::{Row, RowFault};
-use run_core::{Answer, Options, Report, Request, RunCore, RunFault};
+use row_io::{AnswerText, Row, RowFault};
+use run_core::{Answer, Report, Request, RunCore, RunFault};
 use std::alloc::Global;
 use std::mem;
 
@@ -21,35 +20,24 @@ struct Giving {
     times: u64,
 }
 
-/// How the run of a row ends that gives up after so many answers, and how many ends of children it waits for then.
-pub fn answer(alloc: Global, row: &Row) -> Result<String, RowFault> {
+/// Writes how the run of a row ends that gives up after so many answers, and how many ends of children it waits for then.
+pub fn put_answer(
+    alloc: Global,
+    row: &Row,
+    case: &Case,
+    out: &mut AnswerText,
+) -> Result<(), RowFault> {
     let giving = Giving {
         after: row.natural("after")?,
         times: row.natural("times")?,
     };
-    let case = case_of(alloc, row)?;
-    let end = end_of(alloc, row, &case, giving);
-    mem::drop(case);
-    end
-}
-
-fn end_of(alloc: Global, row: &Row, case: &Case, giving: Giving) -> Result<String, RowFault> {
-    let options = options_of(alloc, row)?;
-    end_by(alloc, case, options, giving)
-}
-
-fn end_by(alloc: Global, case: &Case, options: Options, giving: Giving) -> Result<String, RowFault>
-    requires { IsWithinLimits options }
-{
-    let Ok(mut core) = RunCore::new(alloc, case.process.as_process(), &case.inputs, options) else {
-        return Err(RowFault::OutOfMemory);
-    };
+    let mut core = core_of(alloc, row, case, false)?;
     match waits_after(alloc, &mut core, giving) {
         Ok(count) => {
             let end = core.finish();
-            let text = end_text(alloc, &end, count);
+            put_waited(alloc, out, &end, count);
             mem::drop(end);
-            text
+            Ok(())
         }
         Err(fault) => {
             mem::drop(core);
@@ -58,12 +46,15 @@ fn end_by(alloc: Global, case: &Case, options: Options, giving: Giving) -> Resul
     }
 }
 
-fn end_text(alloc: Global, end: &Result<Report, RunFault>, count: u64) -> Result<String, RowFault> {
-    if matches!(end, Err(RunFault::OutOfMemory)) {
-        return Ok(format!(in alloc; "{{\"waited\":{count},\"end\":\"OutOfMemory\"}}")?);
+fn put_waited(alloc: Global, out: &mut AnswerText, end: &Result<Report, RunFault>, count: u64) {
+    out.put("{\"waited\":");
+    out.put_natural(count);
+    out.put(",\"end\":");
+    match end {
+        Err(RunFault::OutOfMemory) => out.put("\"OutOfMemory\""),
+        _ => put_end(alloc, out, end),
     }
-    let end = end_json(alloc, end)?;
-    Ok(format!(in alloc; "{{\"waited\":{count},\"end\":{end}}}")?)
+    out.put("}");
 }
 
 /// Gives up after so many answers, and returns how many ends of children are waited for then. There has to be a request

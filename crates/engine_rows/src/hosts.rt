@@ -1,211 +1,210 @@
-use crate::copies::{listing_json, measure_json};
-use crate::list::{List, numbers};
-use crate::requests::requests;
-use crate::script::{listing_of, script_of};
+use crate::copies::put_scripted;
+use crate::end::put_numbers;
+use crate::machine::archives::{put_done, put_fetched};
+use crate::machine::child::put_folder;
+use crate::machine::children::close_all;
+use crate::machine::listing::{put_code, put_fault};
+use crate::machine::paths::put_head;
+use crate::machine::place::empty_plan;
+use crate::requests::put_requests;
+use crate::run::host_by;
+use crate::script::listing_of;
 use command_line::Launch;
-use plain_data::{Items, Keyed, Text};
-use proc_host::{ChildEnd, Host, HostError, Scripted, Ticket};
-use row_io::{Row, RowFault, quoted};
-use staging::StagePlan;
+use plain_data::{Items, Text};
+use proc_host::{ChildEnd, Host, Scripted, Ticket};
+use row_io::{AnswerText, Row, RowFault};
 use std::alloc::{AllocError, Global};
-use std::str;
+use std::mem;
 
-/// What a scripted host answers to the row's calls, one after the other: `measure`, `stage`, `start`, `collect`, `scan`,
+/// Writes what a scripted host answers to the row's calls, one after the other: `measure`, `stage`, `start`, `collect`, `scan`,
 /// `head` (of three bytes at most), `fetch` and `store` (both of the row's `files`), `deliver`, and `close` for the ticket that was
 /// started last.
-pub fn answer(alloc: Global, row: &Row) -> Result<String, RowFault> {
-    let script = script_of(alloc, row, "script")?;
-    let mut host = Scripted::new(alloc, script, row.natural("least_started")?);
+pub fn put_answer(alloc: Global, row: &Row, out: &mut AnswerText) -> Result<(), RowFault> {
+    let mut host = host_by(alloc, row, "script")?;
     let mut held = Vec::new(alloc);
-    let answered = answered(alloc, row, &mut host, &mut held);
+    let put = put_answers(alloc, row, &mut host, &mut held, out);
     close_all(&mut host, held);
-    answered
+    mem::drop(host);
+    put
 }
 
-fn close_all(host: &mut Scripted, mut held: Vec<Ticket>) {
-    while let Some(ticket) = held.pop() {
-        host.close(ticket);
-    }
-    held.destroy_empty();
-}
-
-fn answered(
+fn put_answers(
     alloc: Global,
     row: &Row,
     host: &mut Scripted,
     held: &mut Vec<Ticket>,
-) -> Result<String, RowFault> {
-    let answers = answers(alloc, row, host, held)?;
-    let asked = requests(alloc, host.log())?;
-    let left = numbers(alloc, host.running())?;
-    let unsaid = host.script_left().len();
-    Ok(format!(in alloc;
-        "{{\"answers\":{answers},\"asked\":{asked},\"left\":{left},\"unsaid\":{unsaid}}}"
-    )?)
-}
-
-fn answers(
-    alloc: Global,
-    row: &Row,
-    host: &mut Scripted,
-    held: &mut Vec<Ticket>,
-) -> Result<String, RowFault> {
-    let mut list = List::new(alloc)?;
+    out: &mut AnswerText,
+) -> Result<(), RowFault> {
+    out.put("{\"answers\":[");
     for call in row.list("calls")? {
-        let call = call.as_str().ok_or(RowFault::BadArgument)?;
-        let answer = answer_to(alloc, row, call, host, held)?;
-        list.push(answer.as_str())?;
+        out.put_comma();
+        put_answer_to(alloc, row, call.as_str().unwrap_or("?"), host, held, out)?;
     }
-    Ok(list.close()?)
+    out.put("],\"asked\":");
+    put_requests(alloc, out, host.log());
+    out.put(",\"left\":");
+    put_numbers(out, host.running());
+    out.put(",\"unsaid\":");
+    out.put_natural(host.script_left().len() as u64);
+    out.put("}");
+    Ok(())
 }
 
-fn answer_to(
+fn put_answer_to(
     alloc: Global,
     row: &Row,
     call: &str,
     host: &mut Scripted,
     held: &mut Vec<Ticket>,
-) -> Result<String, RowFault> {
+    out: &mut AnswerText,
+) -> Result<(), RowFault> {
     match call {
-        "measure" => measured(alloc, host),
-        "stage" => done(alloc, host.stage(&no_moves(alloc), 1)),
-        "start" => started(alloc, host, held),
-        "collect" => collected(alloc, host),
-        "scan" => scanned(alloc, host),
-        "head" => read(alloc, host),
-        "fetch" => fetched(alloc, row, host),
-        "store" => stored(alloc, row, host),
-        "deliver" => done(alloc, host.deliver(&no_moves(alloc))),
-        "close" => closed(alloc, host, held),
+        "collect" => put_collected(host, out),
+        _ => put_call(alloc, row, call, host, held, out),
+    }
+}
+
+/// Writes what a host answers to a call that takes no child in flight.
+fn put_call<H: Host>(
+    alloc: Global,
+    row: &Row,
+    call: &str,
+    host: &mut H,
+    held: &mut Vec<Ticket>,
+    out: &mut AnswerText,
+) -> Result<(), RowFault> {
+    match call {
+        "measure" => put_measured(alloc, host, out),
+        "stage" | "deliver" => {
+            put_copied(alloc, call, host, out);
+            Ok(())
+        }
+        "start" => put_started(alloc, host, held, out),
+        "scan" => {
+            put_folder(host, &Text::from_text(alloc, "w/j1/out")?, out);
+            Ok(())
+        }
+        "head" => {
+            put_head(host, &Text::from_text(alloc, "/d/a")?, 3, out);
+            Ok(())
+        }
+        "fetch" => put_fetch(alloc, row, host, out),
+        "store" => put_store(alloc, row, host, out),
+        "close" => put_closed(host, held, out),
         _ => Err(RowFault::BadArgument),
     }
 }
 
-/// The code of a fault.
-fn failed(alloc: Global, error: HostError) -> Result<String, RowFault> {
-    match error {
-        HostError::Fault(fault) => quoted(alloc, fault.code()),
-        HostError::OutOfMemory => Err(RowFault::OutOfMemory),
-    }
+/// Writes what a stage or a delivery of nothing answers.
+fn put_copied<H: Host>(alloc: Global, call: &str, host: &mut H, out: &mut AnswerText) {
+    let plan = empty_plan(alloc);
+    let done = match call {
+        "stage" => host.stage(&plan, 1),
+        _ => host.deliver(&plan),
+    };
+    mem::drop(plan);
+    put_done(done, out);
 }
 
-fn done(alloc: Global, answer: Result<(), HostError>) -> Result<String, RowFault> {
-    match answer {
-        Ok(()) => quoted(alloc, "done"),
-        Err(error) => failed(alloc, error),
-    }
-}
-
-fn started(alloc: Global, host: &mut Scripted, held: &mut Vec<Ticket>) -> Result<String, RowFault> {
-    let launch = echo(alloc)?;
-    start(alloc, &launch, host, held)
-}
-
-fn start(
+fn put_started<H: Host>(
     alloc: Global,
-    launch: &Launch,
-    host: &mut Scripted,
+    host: &mut H,
     held: &mut Vec<Ticket>,
-) -> Result<String, RowFault> {
+    out: &mut AnswerText,
+) -> Result<(), RowFault> {
     held.reserve(1)?;
-    match host.start(launch) {
+    let launch = echo(alloc)?;
+    match host.start(&launch) {
         Ok(ticket) => {
-            let number = ticket.number();
+            out.put_natural(ticket.number());
             held.push(ticket).unwrap();
-            Ok(number.to_string(alloc)?)
         }
-        Err(error) => failed(alloc, error),
+        Err(error) => put_fault(out, error),
     }
+    mem::drop(launch);
+    Ok(())
 }
 
-fn collected(alloc: Global, host: &mut Scripted) -> Result<String, RowFault> {
+fn put_collected(host: &mut Scripted, out: &mut AnswerText) -> Result<(), RowFault> {
     if host.running().is_empty() {
         return Err(RowFault::BadArgument);
     }
     match host.collect() {
-        Ok(end) => end_json(alloc, end),
-        Err(error) => failed(alloc, error),
+        Ok(end) => put_child_end(out, end),
+        Err(error) => put_fault(out, error),
     }
+    Ok(())
 }
 
-fn end_json(alloc: Global, end: ChildEnd) -> Result<String, RowFault> {
-    let mut list = List::new(alloc)?;
-    list.push_number(alloc, end.ticket)?;
-    match end.code {
-        Some(code) => list.push(code.to_string(alloc)?.as_str())?,
-        None => list.push("null")?,
-    }
-    list.push_number(alloc, end.millis)?;
-    Ok(list.close()?)
+fn put_child_end(out: &mut AnswerText, end: ChildEnd) {
+    out.put("[");
+    out.put_natural(end.ticket);
+    out.put(",");
+    put_code(out, end.code);
+    out.put(",");
+    out.put_natural(end.millis);
+    out.put("]");
 }
 
-fn scanned(alloc: Global, host: &mut Scripted) -> Result<String, RowFault> {
-    let folder = Text::from_text(alloc, "w/j1/out")?;
-    match host.scan(&folder) {
-        Ok(found) => listing_json(alloc, &found),
-        Err(error) => failed(alloc, error),
-    }
-}
-
-fn fetched(alloc: Global, row: &Row, host: &mut Scripted) -> Result<String, RowFault> {
+fn put_fetch<H: Host>(
+    alloc: Global,
+    row: &Row,
+    host: &mut H,
+    out: &mut AnswerText,
+) -> Result<(), RowFault> {
     let key = Text::from_text(alloc, "k")?;
     let files = listing_of(alloc, row.json("files")?)?;
-    match host.fetch(&key, 1, &files) {
-        Ok(found) => listing_json(alloc, &found),
-        Err(error) => failed(alloc, error),
-    }
+    put_fetched(host.fetch(&key, 1, &files), out);
+    mem::drop(files);
+    Ok(())
 }
 
-fn stored(alloc: Global, row: &Row, host: &mut Scripted) -> Result<String, RowFault> {
+fn put_store<H: Host>(
+    alloc: Global,
+    row: &Row,
+    host: &mut H,
+    out: &mut AnswerText,
+) -> Result<(), RowFault> {
     let key = Text::from_text(alloc, "k")?;
     let folder = Text::from_text(alloc, "w/j1/out")?;
     let files = listing_of(alloc, row.json("files")?)?;
-    done(alloc, host.store(&key, &folder, &files))
+    put_done(host.store(&key, &folder, &files), out);
+    mem::drop(files);
+    Ok(())
 }
 
-fn measured(alloc: Global, host: &mut Scripted) -> Result<String, RowFault> {
+fn put_measured<H: Host>(
+    alloc: Global,
+    host: &mut H,
+    out: &mut AnswerText,
+) -> Result<(), RowFault> {
     let path = Text::from_text(alloc, "/d/a")?;
     match host.measure(&path) {
-        Ok(measure) => measure_json(alloc, &measure),
-        Err(error) => failed(alloc, error),
+        Ok(measure) => put_scripted(out, &measure),
+        Err(error) => put_fault(out, error),
     }
+    Ok(())
 }
 
-fn read(alloc: Global, host: &mut Scripted) -> Result<String, RowFault> {
-    let path = Text::from_text(alloc, "/d/a")?;
-    match host.head(&path, 3) {
-        Ok(bytes) => bytes_json(alloc, bytes.as_slice()),
-        Err(error) => failed(alloc, error),
-    }
-}
-
-/// First bytes, which are a text, in a list.
-fn bytes_json(alloc: Global, bytes: &[u8]) -> Result<String, RowFault> {
-    let text = str::from_utf8(bytes).ok().ok_or(RowFault::BadArgument)?;
-    let mut list = List::new(alloc)?;
-    list.push_text(alloc, text)?;
-    Ok(list.close()?)
-}
-
-fn closed(alloc: Global, host: &mut Scripted, held: &mut Vec<Ticket>) -> Result<String, RowFault> {
+fn put_closed<H: Host>(
+    host: &mut H,
+    held: &mut Vec<Ticket>,
+    out: &mut AnswerText,
+) -> Result<(), RowFault> {
     match held.pop() {
         Some(ticket) => {
             host.close(ticket);
-            quoted(alloc, "closed")
+            out.put_quoted("closed");
+            Ok(())
         }
         None => Err(RowFault::BadArgument),
     }
 }
 
-fn no_moves(alloc: Global) -> StagePlan {
-    StagePlan {
-        moves: Items::new(alloc),
-        value: Keyed::new(alloc),
-    }
-}
-
 /// The launch of `echo hi`.
 fn echo(alloc: Global) -> Result<Launch, AllocError> {
+    let stdout = Text::from_text(alloc, "out.txt")?;
+    let dir = Text::from_text(alloc, "w/j1/out")?;
     let mut words = Items::new(alloc);
     words.push(Text::from_text(alloc, "echo")?)?;
     words.push(Text::from_text(alloc, "hi")?)?;
@@ -213,8 +212,8 @@ fn echo(alloc: Global) -> Result<Launch, AllocError> {
         words,
         env: Items::new(alloc),
         stdin: None,
-        stdout: Some(Text::from_text(alloc, "out.txt")?),
+        stdout: Some(stdout),
         stderr: None,
-        dir: Text::from_text(alloc, "w/j1/out")?,
+        dir,
     })
 }

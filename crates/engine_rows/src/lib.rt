@@ -7,9 +7,7 @@
 //! the script does not answer next fails.
 #![tactic(auto)]
 
-mod again;
 mod alone;
-mod archived;
 mod came;
 mod cheapest;
 mod copies;
@@ -19,7 +17,6 @@ mod generated;
 mod generator;
 mod giving_up;
 mod hosts;
-mod list;
 mod lost;
 pub mod machine;
 mod orders;
@@ -31,8 +28,10 @@ mod stopped;
 mod timed;
 mod words;
 
-use row_io::{Row, RowFault};
+use crate::run::case_of;
+use row_io::{AnswerText, Row, RowFault};
 use std::alloc::Global;
+use std::mem;
 
 /// The answer of a row of this crate's; that of another is no call of its.
 pub fn answer(rt: &HostRuntime, row: &Row) -> Result<String, RowFault> {
@@ -47,20 +46,35 @@ pub fn answer(rt: &HostRuntime, row: &Row) -> Result<String, RowFault> {
 
 /// The same of a row over no real file.
 fn scripted(alloc: Global, row: &Row) -> Result<String, RowFault> {
+    let mut out = AnswerText::new(alloc);
+    if let Err(fault) = put_scripted(alloc, row, &mut out) {
+        out.fail(fault);
+    }
+    out.finish()
+}
+
+fn put_scripted(alloc: Global, row: &Row, out: &mut AnswerText) -> Result<(), RowFault> {
     match row.call() {
-        "host" => hosts::answer(alloc, row),
-        "classify" => words::class(alloc, row),
-        "fault_code" => words::fault(alloc, row),
-        "copy_listing" => copies::listing(alloc, row),
-        "copy_plan" => copies::plan(alloc, row),
-        "run" => run::answer(alloc, row),
-        "run_again" => again::answer(alloc, row),
-        "run_archiving" => archived::answer(alloc, row),
-        "runs" => runs::answer(alloc, row),
-        "run_stops" => stopped::answer(alloc, row),
-        "gives_up" => giving_up::answer(alloc, row),
-        "generated_runs" => generated::answer(alloc, row),
-        "orders" => orders::answer(alloc, row),
+        "host" => hosts::put_answer(alloc, row, out),
+        "classify" => words::put_class(alloc, row, out),
+        "fault_code" => words::put_fault_code(row, out),
+        "copy_listing" => copies::put_listing_copy(alloc, row, out),
+        "copy_plan" => copies::put_plan_copy(alloc, row, out),
+        "run" | "run_again" | "run_archiving" | "runs" => runs::put_answer(alloc, row, out),
+        "run_stops" | "gives_up" | "orders" => put_of_case(alloc, row, out),
+        "generated_runs" => generated::put_answer(alloc, row, out),
         _ => Err(RowFault::UnknownCall),
     }
+}
+
+/// Writes the answer of a call that runs the row's process in its own way.
+fn put_of_case(alloc: Global, row: &Row, out: &mut AnswerText) -> Result<(), RowFault> {
+    let case = case_of(alloc, row)?;
+    let put = match row.call() {
+        "run_stops" => stopped::put_answer(alloc, row, &case, out),
+        "gives_up" => giving_up::put_answer(alloc, row, &case, out),
+        _ => orders::put_answer(alloc, row, &case, out),
+    };
+    mem::drop(case);
+    put
 }

@@ -1,16 +1,19 @@
-mod archives;
+pub(crate) mod archives;
 pub mod child;
-mod children;
+pub(crate) mod children;
 mod copies;
 mod ended;
 mod faults;
-mod listing;
-mod paths;
+pub(crate) mod listing;
+pub(crate) mod paths;
 pub mod place;
 pub mod shell;
 
-use crate::machine::place::{made, removed};
-use row_io::{Row, RowFault};
+use crate::machine::place::{machine_of, made, prepared, removed};
+use process_machine::{Machine, World};
+use row_io::{AnswerText, Row, RowFault};
+use std::mem;
+use std::process::Stdio;
 
 /// What a call answers over real children and real files. It has a folder `row-work` of its own, which is made in the
 /// folder that the program runs in and removed again.
@@ -22,14 +25,44 @@ pub fn told_of(rt: &HostRuntime, row: &Row) -> Result<String, RowFault> {
 }
 
 fn told_in(rt: &HostRuntime, row: &Row, place: &str) -> Result<String, RowFault> {
+    prepared(rt, row, place)?;
     match row.call() {
-        "archive" => archives::told_of(rt, row, place),
-        "child" => child::told_of(rt, row, place),
-        "children" => children::told_of(rt, row, place),
-        "stage" | "deliver" => copies::told_of(rt, row, place),
-        "measure" | "scan" | "head" => paths::told_of(rt, row, place),
         "fails_after" => faults::told_of(rt, row, place),
-        "remove" => paths::removed_of(rt, row, place),
+        _ => told_by_machine(rt, row, place),
+    }
+}
+
+/// The answer of a call of one machine.
+fn told_by_machine(rt: &HostRuntime, row: &Row, place: &str) -> Result<String, RowFault> {
+    let mut host = machine_of(rt, row, place)?;
+    let mut out = AnswerText::new(rt.alloc());
+    if let Err(fault) = put_told(rt, &mut host, row, place, &mut out) {
+        out.fail(fault);
+    }
+    mem::drop(host);
+    out.finish()
+}
+
+fn put_told<R: World>(
+    rt: &HostRuntime,
+    host: &mut Machine<R>,
+    row: &Row,
+    place: &str,
+    out: &mut AnswerText,
+) -> Result<(), RowFault>
+where
+    R::File: Into<Stdio>,
+{
+    match row.call() {
+        "archive" => archives::put_told(rt, host, row, place, out),
+        "child" => child::put_told(rt, host, row, place, out),
+        "children" => {
+            children::put_told(rt, host, row, place, out);
+            Ok(())
+        }
+        "stage" | "deliver" => copies::put_told(rt.alloc(), host, row, place, out),
+        "measure" | "scan" | "head" => paths::put_told(rt.alloc(), host, row, place, out),
+        "remove" => paths::put_removed(rt, host, row, place, out),
         _ => Err(RowFault::UnknownCall),
     }
 }

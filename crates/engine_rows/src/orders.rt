@@ -1,51 +1,49 @@
 //! Runs of one process whose children end in many orders.
-ghost use Rattle.run_core.specs.Limits.{IsWithinLimits};
 
 use crate::alone::{Chance, drive};
-use crate::end::end_json;
-use crate::run::{Case, case_of, options_of};
-use row_io::{Row, RowFault};
-use run_core::{Options, RunCore};
+use crate::end::put_end;
+use crate::run::{Case, core_of};
+use row_io::{AnswerText, Row, RowFault};
 use std::alloc::Global;
 use std::mem;
 
-/// How the run of a row ends in so many orders of ends: the one end that all have, or the first two that differ.
-pub fn answer(alloc: Global, row: &Row) -> Result<String, RowFault> {
-    let case = case_of(alloc, row)?;
-    let end = end_in_all(alloc, row, &case);
-    mem::drop(case);
-    end
-}
-
-fn end_in_all(alloc: Global, row: &Row, case: &Case) -> Result<String, RowFault> {
+/// Writes how the run of a row ends in so many orders of ends: the one end that all have, or the first two that differ.
+pub fn put_answer(
+    alloc: Global,
+    row: &Row,
+    case: &Case,
+    out: &mut AnswerText,
+) -> Result<(), RowFault> {
     let orders = row.natural("orders")?;
     let first = end_in(alloc, row, case, 0)?;
     for order in 1..orders {
         let other = end_in(alloc, row, case, order)?;
         if other.as_str() != first.as_str() {
-            return Ok(format!(in alloc; "{{\"differ\":[{first},{other}]}}")?);
+            put_differ(out, first.as_str(), other.as_str());
+            return Ok(());
         }
     }
-    Ok(first)
+    out.put(first.as_str());
+    Ok(())
+}
+
+fn put_differ(out: &mut AnswerText, first: &str, other: &str) {
+    out.put("{\"differ\":[");
+    out.put(first);
+    out.put(",");
+    out.put(other);
+    out.put("]}");
 }
 
 fn end_in(alloc: Global, row: &Row, case: &Case, order: u64) -> Result<String, RowFault> {
-    let options = options_of(alloc, row)?;
-    end_by(alloc, case, options, order)
-}
-
-fn end_by(alloc: Global, case: &Case, options: Options, order: u64) -> Result<String, RowFault>
-    requires { IsWithinLimits options }
-{
-    let Ok(mut core) = RunCore::new(alloc, case.process.as_process(), &case.inputs, options) else {
-        return Err(RowFault::OutOfMemory);
-    };
+    let mut core = core_of(alloc, row, case, false)?;
     match drive(alloc, &mut core, &mut Chance::new(order)) {
         Ok(()) => {
             let end = core.finish();
-            let text = end_json(alloc, &end);
+            let mut out = AnswerText::new(alloc);
+            put_end(alloc, &mut out, &end);
             mem::drop(end);
-            text
+            out.finish()
         }
         Err(fault) => {
             mem::drop(core);

@@ -1,68 +1,86 @@
-use crate::list::List;
+use crate::end::put_text;
 use command_line::Launch;
 use plain_data::Items;
 use proc_host::{Entry, HostRequest};
-use row_io::RowFault;
+use row_io::AnswerText;
 use staging::{Found, StagePlan};
-use std::alloc::{AllocError, Global};
+use std::alloc::Global;
 
-/// The requests of a log, as a JSON list of texts.
-pub fn requests(alloc: Global, log: &[Entry]) -> Result<String, RowFault> {
-    let mut list = List::new(alloc)?;
+/// Writes the requests of a log, as a JSON list of texts.
+pub fn put_requests(alloc: Global, out: &mut AnswerText, log: &[Entry]) {
+    out.put("[");
     for entry in log {
-        let request = request(alloc, &entry.request)?;
-        list.push_text(alloc, request.as_str())?;
+        out.put_comma();
+        put_request(alloc, out, &entry.request);
     }
-    Ok(list.close()?)
+    out.put("]");
 }
 
-fn request(alloc: Global, request: &HostRequest) -> Result<String, AllocError> {
+fn put_request(alloc: Global, out: &mut AnswerText, request: &HostRequest) {
+    let mut text = AnswerText::new(alloc);
+    put_words(&mut text, request);
+    put_text(out, text);
+}
+
+fn put_words(out: &mut AnswerText, request: &HostRequest) {
     match request {
-        HostRequest::Stage(plan, number) => moves(format!(in alloc; "stage {number}")?, plan),
-        HostRequest::Start(launch) => start(alloc, launch),
-        HostRequest::Measure(path) => format!(in alloc; "measure {}", path.as_str()),
-        HostRequest::Head(path, limit) => format!(in alloc; "head {limit} {}", path.as_str()),
-        HostRequest::Collect => String::from_str(alloc, "collect"),
-        HostRequest::Scan(folder) => format!(in alloc; "scan {}", folder.as_str()),
+        HostRequest::Stage(plan, number) => {
+            out.put("stage ");
+            out.put_natural(*number);
+            put_moves(out, plan);
+        }
+        HostRequest::Start(launch) => put_start(out, launch),
+        HostRequest::Measure(path) => put_path(out, "measure ", path.as_str()),
+        HostRequest::Head(path, limit) => {
+            out.put("head ");
+            out.put_natural(*limit);
+            put_path(out, " ", path.as_str());
+        }
+        HostRequest::Collect => out.put("collect"),
+        HostRequest::Scan(folder) => put_path(out, "scan ", folder.as_str()),
         HostRequest::Fetch(key, number, files) => {
-            names(format!(in alloc; "fetch {number} {}", key.as_str())?, files)
+            out.put("fetch ");
+            out.put_natural(*number);
+            put_path(out, " ", key.as_str());
+            put_names(out, files);
         }
         HostRequest::Store(key, folder, files) => {
-            names(
-                format!(in alloc; "store {} {}", key.as_str(), folder.as_str())?,
-                files,
-            )
+            put_path(out, "store ", key.as_str());
+            put_path(out, " ", folder.as_str());
+            put_names(out, files);
         }
-        HostRequest::Deliver(plan) => moves(String::from_str(alloc, "deliver")?, plan),
+        HostRequest::Deliver(plan) => {
+            out.put("deliver");
+            put_moves(out, plan);
+        }
     }
 }
 
-/// The words of a start, behind the folder that it runs in.
-fn start(alloc: Global, launch: &Launch) -> Result<String, AllocError> {
-    let mut text = format!(in alloc; "start in {}:", launch.dir.as_str())?;
+fn put_path(out: &mut AnswerText, before: &str, path: &str) {
+    out.put(before);
+    out.put(path);
+}
+
+/// Writes the words of a start, behind the folder that it runs in.
+fn put_start(out: &mut AnswerText, launch: &Launch) {
+    put_path(out, "start in ", launch.dir.as_str());
+    out.put(":");
     for word in launch.words.as_slice() {
-        text.push(' ')?;
-        text.push_str(word.as_str())?;
+        put_path(out, " ", word.as_str());
     }
-    Ok(text)
 }
 
-/// A text, and behind it the name of each entry of a listing.
-fn names(mut text: String, files: &Items<Found>) -> Result<String, AllocError> {
+/// Writes the name of each entry of a listing.
+fn put_names(out: &mut AnswerText, files: &Items<Found>) {
     for file in files.as_slice() {
-        text.push(' ')?;
-        text.push_str(file.name.as_str())?;
+        put_path(out, " ", file.name.as_str());
     }
-    Ok(text)
 }
 
-/// A text, and behind it each move of a plan.
-fn moves(mut text: String, plan: &StagePlan) -> Result<String, AllocError> {
+/// Writes each move of a plan.
+fn put_moves(out: &mut AnswerText, plan: &StagePlan) {
     for planned in plan.moves.as_slice() {
-        text.push(' ')?;
-        text.push_str(planned.source.as_str())?;
-        text.push_str(" to ")?;
-        text.push_str(planned.target.as_str())?;
+        put_path(out, " ", planned.source.as_str());
+        put_path(out, " to ", planned.target.as_str());
     }
-    Ok(text)
 }

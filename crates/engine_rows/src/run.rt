@@ -1,83 +1,22 @@
+//! What a row's run is of, and what it may use.
 ghost use Rattle.std.specs.Prelude.{◌≡◌, ◌≤◌, ◌^◌, [], IfOk};
 ghost use Rattle.run_core.specs.Limits.{IsWithinLimits};
 
-use crate::end::end_json;
-use crate::list::numbers;
-use crate::requests::requests;
 use crate::script::script_of;
 use cwl_value::{Value, from_json};
 use document_links::{Docs, Document, Process, read_process};
 use file_values::resolve;
-use job_rows::MemoryRecord;
+use job_rows::Record;
 use plain_data::{Items, Keyed, Text};
-use proc_host::Scripted;
+use proc_host::{Host, Scripted};
 use row_io::{Row, RowFault, json_text};
-use run_core::Options;
+use run_core::{Options, Report, RunCore, RunFault};
+use serde_json::Value as Json;
 use std::alloc::Global;
 use std::mem;
 use url::Url;
 use workflow_check::{Accepted, accept};
 use workflow_engine::{Unwatched, run};
-
-/// How a run of the row's document on its inputs ends over its script, what was asked, and the tickets left.
-pub fn answer(alloc: Global, row: &Row) -> Result<String, RowFault> {
-    let mut host = host_of(alloc, row)?;
-    let answer = answer_on(alloc, row, &mut host);
-    mem::drop(host);
-    answer
-}
-
-fn answer_on(alloc: Global, row: &Row, host: &mut Scripted) -> Result<String, RowFault>
-    requires { host.old.running ≡ [] }
-{
-    let end = end_on(alloc, row, host)?;
-    let asked = requests(alloc, host.log())?;
-    let left = numbers(alloc, host.running())?;
-    Ok(format!(in alloc; "{{\"end\":{end},\"asked\":{asked},\"left\":{left}}}")?)
-}
-
-fn end_on(alloc: Global, row: &Row, host: &mut Scripted) -> Result<String, RowFault>
-    requires { host.old.running ≡ [] }
-{
-    let case = case_of(alloc, row)?;
-    let end = end_of(alloc, row, host, &case);
-    mem::drop(case);
-    end
-}
-
-fn end_of(alloc: Global, row: &Row, host: &mut Scripted, case: &Case) -> Result<String, RowFault>
-    requires { host.old.running ≡ [] }
-{
-    let mut rows = MemoryRecord::new(alloc);
-    let text = end_over(alloc, row, host, &mut rows, case);
-    mem::drop(rows);
-    text
-}
-
-/// How a run over this host and this record ends.
-pub fn end_over(
-    alloc: Global,
-    row: &Row,
-    host: &mut Scripted,
-    rows: &mut MemoryRecord,
-    case: &Case,
-) -> Result<String, RowFault>
-    requires { host.old.running ≡ [] }
-{
-    let options = options_of(alloc, row)?;
-    let end = run(
-        alloc,
-        host,
-        rows,
-        case.process.as_process(),
-        &case.inputs,
-        options,
-        &mut Unwatched,
-    );
-    let text = end_json(alloc, &end);
-    mem::drop(end);
-    text
-}
 
 /// What a row's run is of.
 #[derive(Drop)]
@@ -103,12 +42,12 @@ pub fn case_at(alloc: Global, row: &Row, location: &str) -> Result<Case, RowFaul
     }
 }
 
-/// A host that answers from the row's script; it collects once `least_started` children were started, where the row says so.
-fn host_of(alloc: Global, row: &Row) -> Result<Scripted, RowFault>
+/// A host that answers from the row's script of this name; it collects once `least_started` children were started, where the row says so.
+pub fn host_by(alloc: Global, row: &Row, script: &str) -> Result<Scripted, RowFault>
     ensures { IfOk result (λ host. host.running ≡ []) }
 {
     let least_started = natural_or(row, "least_started", 0)?;
-    Ok(Scripted::new(alloc, script_of(alloc, row, "script")?, least_started))
+    Ok(Scripted::new(alloc, script_of(alloc, row, script)?, least_started))
 }
 
 fn accepted(alloc: Global, row: &Row) -> Result<Accepted, RowFault> {
@@ -121,20 +60,42 @@ fn process_of(alloc: Global, row: &Row) -> Result<Process, RowFault> {
     let text = json_text(alloc, row.json("document")?)?;
     let bytes = text.as_bytes().to_vec(alloc)?;
     let document = Document::read(alloc, Items::from_vec(bytes))?;
+    let process = process_in(alloc, &document);
+    mem::drop(document);
+    process
+}
+
+fn process_in(alloc: Global, document: &Document) -> Result<Process, RowFault> {
     let base = done(Url::parse(alloc, "file:///d/document.json"))?;
+    let process = process_at(alloc, document, &base);
+    mem::drop(base);
+    process
+}
+
+fn process_at(alloc: Global, document: &Document, base: &Url) -> Result<Process, RowFault> {
     let docs = Docs::of(alloc, Keyed::new(alloc))?;
-    done(read_process(alloc, &document, &base, &docs))
+    let process = done(read_process(alloc, document, base, &docs));
+    mem::drop(docs);
+    process
 }
 
 /// The inputs of a row, in the file at this location.
 fn inputs_at(alloc: Global, row: &Row, location: &str) -> Result<Keyed<Value>, RowFault> {
+    let json = row.json("inputs")?;
     let base = done(Url::parse(alloc, location))?;
-    let value = done(from_json(alloc, row.json("inputs")?))?;
-    let located = resolve(alloc, value, &base);
+    let inputs = located(alloc, json, &base);
     mem::drop(base);
-    match located {
+    inputs
+}
+
+fn located(alloc: Global, json: &Json, base: &Url) -> Result<Keyed<Value>, RowFault> {
+    let value = done(from_json(alloc, json))?;
+    match resolve(alloc, value, base) {
         Ok(Value::Fields(inputs)) => Ok(inputs),
-        _ => Err(RowFault::BadArgument),
+        other => {
+            mem::drop(other);
+            Err(RowFault::BadArgument)
+        }
     }
 }
 
@@ -153,14 +114,48 @@ fn natural_or(row: &Row, name: &str, absent: u64) -> Result<u64, RowFault> {
     row.natural(name)
 }
 
-/// What the row's run may use: its `slots` and `retries`, which are 1 and 0 where it has none.
-pub fn options_of(alloc: Global, row: &Row) -> Result<Options, RowFault>
-    ensures { IfOk result IsWithinLimits }
+/// How a run of a case ends over a host and a record. It says nothing of the end, so that a caller over a host that is named is
+/// checked sooner.
+pub fn end_over<H: Host, K: Record>(
+    alloc: Global,
+    case: &Case,
+    host: &mut H,
+    rows: &mut K,
+    options: Options,
+) -> Result<Report, RunFault>
+    requires idle { H.running host.old ≡ [] }
+    requires limits { IsWithinLimits options }
 {
-    options_with(alloc, row, false)
+    run(
+        alloc,
+        host,
+        rows,
+        case.process.as_process(),
+        &case.inputs,
+        options,
+        &mut Unwatched,
+    )
 }
 
-/// The same, where it keeps an archive or not; a fetch costs the row's `base`, or 1 where it has none, and 1 for each 100,000 bytes.
+/// A machine for the run of a row.
+pub fn core_of<'a>(
+    alloc: Global,
+    row: &Row,
+    case: &'a Case,
+    keep: bool,
+) -> Result<RunCore<'a>, RowFault> {
+    let options = options_with(alloc, row, keep)?;
+    match RunCore::new(alloc, case.process.as_process(), &case.inputs, options) {
+        Ok(core) => Ok(core),
+        Err(fault) => {
+            mem::drop(fault);
+            Err(RowFault::OutOfMemory)
+        }
+    }
+}
+
+/// What the row's run may use: its `slots` and `retries`, which are 1 and 0 where it has none. It keeps an archive or not; a fetch
+/// costs the row's `base`, or 1 where it has none, and 1 for each 100,000 bytes.
 pub fn options_with(alloc: Global, row: &Row, keep: bool) -> Result<Options, RowFault>
     ensures { IfOk result IsWithinLimits }
 {
@@ -186,14 +181,22 @@ const MOST_BASE: u64 = 1_000_000_000_000;
 pub fn options_at(row: &Row, keep: bool, paths: Paths) -> Result<Options, RowFault>
     ensures { IfOk result IsWithinLimits }
 {
-    let slots = natural_or(row, "slots", 1)?;
-    let retries = natural_or(row, "retries", 0)?;
-    let base = natural_or(row, "base", 1)?;
+    let Ok((slots, retries, base)) = numbers_of(row) else {
+        mem::drop(paths);
+        return Err(RowFault::BadArgument);
+    };
     if slots == 0 || slots > 64 || retries > 10 || base > MOST_BASE {
         mem::drop(paths);
         return Err(RowFault::BadArgument);
     }
     Ok(options(paths, slots, retries, base, keep))
+}
+
+fn numbers_of(row: &Row) -> Result<(u64, u64, u64), RowFault> {
+    let slots = natural_or(row, "slots", 1)?;
+    let retries = natural_or(row, "retries", 0)?;
+    let base = natural_or(row, "base", 1)?;
+    Ok((slots, retries, base))
 }
 
 fn options(paths: Paths, slots: u64, retries: u64, base: u64, keep: bool) -> Options

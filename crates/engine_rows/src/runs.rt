@@ -1,122 +1,309 @@
-//! Runs over one record and one archive, one after the other: how each ended, what its plans cost, and what it asked.
+//! Runs over a script and a record in memory: how each ended, what was noted, and what it asked.
 ghost use Rattle.std.specs.Prelude.{◌≡◌, []};
 
-use crate::again::commands;
-use crate::archived::{host_of, notes_json};
-use crate::end::end_json;
-use crate::list::List;
-use crate::requests::requests;
-use crate::run::{Case, case_of, options_with};
-use job_rows::MemoryRecord;
+use crate::end::{put_end, put_numbers, put_place};
+use crate::requests::put_requests;
+use crate::run::{Case, case_of, end_over, host_by, options_with};
+use job_rows::{Command, Entry, MemoryRecord, Record, RecordError, Row as Kept};
+use plain_data::{Items, Text};
 use proc_host::Scripted;
-use row_io::{Row, RowFault, json_text};
-use run_core::{PlanNote, Report, RunFault};
+use row_io::{AnswerText, Row, RowFault, json_text};
+use run_core::{Note, NoteKind, PlanNote, Report, RunFault};
 use serde_json::Value as Json;
 use std::alloc::{AllocError, Global};
 use std::mem;
-use workflow_engine::{Unwatched, run};
 
-/// What each of a row's `runs` answers, a row by itself, and what their record was asked.
-pub fn answer(alloc: Global, row: &Row) -> Result<String, RowFault> {
+/// What is written of a run beside its end.
+#[derive(Clone, Copy)]
+enum Told {
+    /// Nothing.
+    End,
+    /// The requests in its log, and the tickets left.
+    Requests,
+    /// What was noted, and the requests. The run keeps an archive, as the next one does.
+    Notes,
+    /// The plans that it followed, what was noted, and the requests.
+    Plans,
+}
+
+/// Writes what the calls `run`, `run_again`, `run_archiving` and `runs` answer: of one run or several over one record, which is
+/// empty before.
+pub fn put_answer(alloc: Global, row: &Row, out: &mut AnswerText) -> Result<(), RowFault> {
     let mut rows = MemoryRecord::new(alloc);
-    let answer = answer_over(alloc, row, &mut rows);
+    let put = put_over(alloc, row, &mut rows, out);
     mem::drop(rows);
-    answer
+    put
 }
 
-fn answer_over(alloc: Global, row: &Row, rows: &mut MemoryRecord) -> Result<String, RowFault> {
-    let mut list = List::new(alloc)?;
+fn put_over(
+    alloc: Global,
+    row: &Row,
+    rows: &mut MemoryRecord,
+    out: &mut AnswerText,
+) -> Result<(), RowFault> {
+    match row.call() {
+        "run" => put_case(alloc, row, Told::Requests, rows, out),
+        "run_again" => put_case(alloc, row, Told::End, rows, out),
+        "run_archiving" => put_case(alloc, row, Told::Notes, rows, out),
+        _ => put_all(alloc, row, rows, out),
+    }
+}
+
+/// Writes what each of a row's `runs` answers, a row by itself, and what their record was asked.
+fn put_all(
+    alloc: Global,
+    row: &Row,
+    rows: &mut MemoryRecord,
+    out: &mut AnswerText,
+) -> Result<(), RowFault> {
+    out.put("{\"runs\":[");
     for item in row.list("runs")? {
-        let told = told_of(alloc, item, rows)?;
-        list.push(told.as_str())?;
+        out.put_comma();
+        put_item(alloc, item, rows, out)?;
     }
-    let runs = list.close()?;
-    let asked = commands(alloc, rows.log())?;
-    Ok(format!(in alloc; "{{\"runs\":{runs},\"record\":{asked}}}")?)
+    out.put("],\"record\":");
+    put_commands(out, rows.log());
+    out.put("}");
+    Ok(())
 }
 
-fn told_of(alloc: Global, item: &Json, rows: &mut MemoryRecord) -> Result<String, RowFault> {
-    let text = json_text(alloc, item)?;
-    let row = Row::read(alloc, text.as_str())?;
-    let told = told_by(alloc, &row, rows);
+fn put_item(
+    alloc: Global,
+    item: &Json,
+    rows: &mut MemoryRecord,
+    out: &mut AnswerText,
+) -> Result<(), RowFault> {
+    let row = row_of(alloc, item)?;
+    let put = put_case(alloc, &row, Told::Plans, rows, out);
     mem::drop(row);
-    told
+    put
 }
 
-fn told_by(alloc: Global, row: &Row, rows: &mut MemoryRecord) -> Result<String, RowFault> {
+fn row_of(alloc: Global, item: &Json) -> Result<Row, RowFault> {
+    let text = json_text(alloc, item)?;
+    Row::read(alloc, text.as_str())
+}
+
+fn put_case(
+    alloc: Global,
+    row: &Row,
+    told: Told,
+    rows: &mut MemoryRecord,
+    out: &mut AnswerText,
+) -> Result<(), RowFault> {
     let case = case_of(alloc, row)?;
-    let told = told_over(alloc, row, &case, rows);
-    mem::drop(case);
-    told
-}
-
-fn told_over(
-    alloc: Global,
-    row: &Row,
-    case: &Case,
-    rows: &mut MemoryRecord,
-) -> Result<String, RowFault> {
-    let mut host = host_of(alloc, row)?;
-    let told = told_on(alloc, row, case, &mut host, rows);
-    mem::drop(host);
-    told
-}
-
-fn told_on(
-    alloc: Global,
-    row: &Row,
-    case: &Case,
-    host: &mut Scripted,
-    rows: &mut MemoryRecord,
-) -> Result<String, RowFault>
-    requires { host.old.running ≡ [] }
-{
-    let ended = ended(alloc, row, case, host, rows)?;
-    let asked = requests(alloc, host.log())?;
-    Ok(format!(in alloc; "{{{ended},\"asked\":{asked}}}")?)
-}
-
-/// How the run ends, the plans that it followed, and what was noted.
-fn ended(
-    alloc: Global,
-    row: &Row,
-    case: &Case,
-    host: &mut Scripted,
-    rows: &mut MemoryRecord,
-) -> Result<String, RowFault>
-    requires { host.old.running ≡ [] }
-{
-    let options = options_with(alloc, row, true)?;
-    let end = run(
-        alloc,
-        host,
-        rows,
-        case.process.as_process(),
-        &case.inputs,
-        options,
-        &mut Unwatched,
-    );
-    let told = told(alloc, &end);
-    mem::drop(end);
-    told
-}
-
-fn told(alloc: Global, end: &Result<Report, RunFault>) -> Result<String, RowFault> {
-    let text = end_json(alloc, end)?;
-    let Ok(report) = end else {
-        return Ok(format!(in alloc; "\"end\":{text}")?);
+    let put = match told {
+        Told::End => put_both(alloc, row, &case, rows, out),
+        _ => put_one(alloc, row, told, &case, rows, out),
     };
-    let plans = plans_json(alloc, report.plans.as_slice())?;
-    let notes = notes_json(alloc, report.notes.as_slice())?;
-    Ok(format!(in alloc; "\"end\":{text},\"plans\":{plans},\"notes\":{notes}")?)
+    mem::drop(case);
+    put
 }
 
-/// Of each plan after how many answers it was made, and what it cost.
-fn plans_json(alloc: Global, plans: &[PlanNote]) -> Result<String, AllocError> {
-    let mut list = List::new(alloc)?;
-    for note in plans {
-        let item = format!(in alloc; "[{},{}]", note.after, note.cost)?;
-        list.push(item.as_str())?;
+/// Writes how two runs end, by the row's scripts `script` and `again`, and what their record was asked.
+fn put_both(
+    alloc: Global,
+    row: &Row,
+    case: &Case,
+    rows: &mut MemoryRecord,
+    out: &mut AnswerText,
+) -> Result<(), RowFault> {
+    out.put("{\"first\":");
+    put_run(alloc, row, "script", Told::End, case, rows, out)?;
+    out.put(",\"second\":");
+    put_run(alloc, row, "again", Told::End, case, rows, out)?;
+    out.put(",\"record\":");
+    put_commands(out, rows.log());
+    out.put("}");
+    Ok(())
+}
+
+fn put_one(
+    alloc: Global,
+    row: &Row,
+    told: Told,
+    case: &Case,
+    rows: &mut MemoryRecord,
+    out: &mut AnswerText,
+) -> Result<(), RowFault> {
+    out.put("{\"end\":");
+    put_run(alloc, row, "script", told, case, rows, out)?;
+    if matches!(told, Told::Notes) {
+        out.put(",\"rows\":");
+        put_kept(alloc, rows, out)?;
     }
-    list.close()
+    out.put("}");
+    Ok(())
+}
+
+/// Writes a run by the row's script of this name.
+fn put_run(
+    alloc: Global,
+    row: &Row,
+    script: &str,
+    told: Told,
+    case: &Case,
+    rows: &mut MemoryRecord,
+    out: &mut AnswerText,
+) -> Result<(), RowFault> {
+    let mut host = host_by(alloc, row, script)?;
+    let put = put_run_on(alloc, row, told, case, &mut host, rows, out);
+    mem::drop(host);
+    put
+}
+
+fn put_run_on(
+    alloc: Global,
+    row: &Row,
+    told: Told,
+    case: &Case,
+    host: &mut Scripted,
+    rows: &mut MemoryRecord,
+    out: &mut AnswerText,
+) -> Result<(), RowFault>
+    requires { host.old.running ≡ [] }
+{
+    let options = options_with(alloc, row, matches!(told, Told::Notes | Told::Plans))?;
+    let end = end_over(alloc, case, host, rows, options);
+    put_end(alloc, out, &end);
+    put_beside(alloc, out, &end, told);
+    mem::drop(end);
+    put_asked(alloc, out, host, told);
+    Ok(())
+}
+
+fn put_beside(alloc: Global, out: &mut AnswerText, end: &Result<Report, RunFault>, told: Told) {
+    match end {
+        Ok(report) => put_report(alloc, out, report, told),
+        Err(_) if matches!(told, Told::Notes) => out.put(",\"notes\":[]"),
+        Err(_) => (),
+    }
+}
+
+fn put_report(alloc: Global, out: &mut AnswerText, report: &Report, told: Told) {
+    if matches!(told, Told::Plans) {
+        put_plans(out, report.plans.as_slice());
+    }
+    if matches!(told, Told::Plans | Told::Notes) {
+        put_notes(alloc, out, report.notes.as_slice());
+    }
+}
+
+fn put_asked(alloc: Global, out: &mut AnswerText, host: &Scripted, told: Told) {
+    if matches!(told, Told::End) {
+        return;
+    }
+    out.put(",\"asked\":");
+    put_requests(alloc, out, host.log());
+    if matches!(told, Told::Requests) {
+        out.put(",\"left\":");
+        put_numbers(out, host.running());
+    }
+}
+
+/// Writes of each plan after how many answers it was made, and what it cost.
+fn put_plans(out: &mut AnswerText, plans: &[PlanNote]) {
+    out.put(",\"plans\":[");
+    for note in plans {
+        out.put_comma();
+        out.put("[");
+        out.put_natural(note.after);
+        out.put(",");
+        out.put_natural(note.cost);
+        out.put("]");
+    }
+    out.put("]");
+}
+
+/// Writes each note as the place of its job, the call that failed, and how.
+fn put_notes(alloc: Global, out: &mut AnswerText, notes: &[Note]) {
+    out.put(",\"notes\":[");
+    for note in notes {
+        let (call, code) = failure_of(&note.kind);
+        out.put_comma();
+        out.put("[");
+        put_place(alloc, out, &note.place);
+        out.put(",\"");
+        out.put(call);
+        out.put(" ");
+        out.put(code);
+        out.put("\"]");
+    }
+    out.put("]");
+}
+
+/// The call that failed, and the code of its fault.
+pub fn failure_of(kind: &NoteKind) -> (&'static str, &'static str) {
+    match kind {
+        NoteKind::Put(refusal) => ("Put", refusal.code()),
+        NoteKind::Drop(refusal) => ("Drop", refusal.code()),
+        NoteKind::Store(fault) => ("Store", fault.code()),
+        NoteKind::Late(fault) => ("Late", fault.code()),
+    }
+}
+
+/// Writes the commands of a log, as a JSON list of their names, each refused one with its code.
+fn put_commands(out: &mut AnswerText, log: &[Entry]) {
+    out.put("[");
+    for entry in log {
+        out.put_comma();
+        out.put("\"");
+        out.put(name_of(entry.command));
+        if let Err(refusal) = &entry.answer {
+            out.put(" ");
+            out.put(refusal.code());
+        }
+        out.put("\"");
+    }
+    out.put("]");
+}
+
+fn name_of(command: Command) -> &'static str {
+    match command {
+        Command::Find => "Find",
+        Command::Put => "Put",
+        Command::DropArchive => "DropArchive",
+        Command::Forget => "Forget",
+    }
+}
+
+/// Writes the key of each row that was put, and whether it says that the files were archived.
+fn put_kept(alloc: Global, rows: &mut MemoryRecord, out: &mut AnswerText) -> Result<(), RowFault> {
+    let keys = keys_put(alloc, rows.log())?;
+    out.put("[");
+    for key in keys.as_slice() {
+        out.put_comma();
+        put_key(rows, key, out);
+    }
+    out.put("]");
+    Ok(())
+}
+
+/// The keys that were put, by this log.
+pub fn keys_put(alloc: Global, log: &[Entry]) -> Result<Items<Text>, AllocError> {
+    let mut keys = Items::new(alloc);
+    for entry in log {
+        if entry.command == Command::Put {
+            keys.push(entry.key.copied(alloc)?)?;
+        }
+    }
+    Ok(keys)
+}
+
+fn put_key(rows: &mut MemoryRecord, key: &Text, out: &mut AnswerText) {
+    out.put("[");
+    out.put_quoted(key.as_str());
+    out.put(",");
+    let found = rows.find(key);
+    put_archived(out, &found);
+    mem::drop(found);
+    out.put("]");
+}
+
+fn put_archived(out: &mut AnswerText, found: &Result<Option<Kept>, RecordError>) {
+    match found {
+        Ok(Some(row)) => out.put_flag(row.archived),
+        Err(RecordError::OutOfMemory) => out.fail(RowFault::OutOfMemory),
+        _ => out.fail(RowFault::BadArgument),
+    }
 }

@@ -1,19 +1,17 @@
 //! A run over a record in two files that are stopped: one of them after each number of calls, the log first and then the database.
 ghost use Rattle.std.specs.Prelude.{◌≡◌, []};
 
-use crate::again::host_by;
-use crate::archived::keys_put;
 use crate::came::{Came, UNASKED, came_of};
-use crate::run::{Case, case_of, options_with};
+use crate::run::{Case, end_over, host_by, options_with};
+use crate::runs::keys_put;
 use job_rows::Row as Kept;
 use plain_data::{Items, Text};
 use proc_host::Scripted;
 use record_rows::rows::row_text;
 use record_rows::store::{Disks, NEVER, Stop, Store};
-use row_io::{Row, RowFault};
+use row_io::{AnswerText, Row, RowFault};
 use std::alloc::Global;
 use std::mem;
-use workflow_engine::{Unwatched, run};
 
 // No run here calls a file so often.
 const MOST_CALLS: u64 = 10_000;
@@ -53,27 +51,26 @@ struct Seen {
     more: u64,
 }
 
-/// What comes of a run of the row's document, by its script, that is stopped at each call of its record's log and of its record's
+/// Writes what comes of a run of the row's document, by its script, that is stopped at each call of its record's log and of its record's
 /// database. `find` says that there were stops at which a Find was refused, and `put` that there were some at which a Put was
 /// refused and the run succeeded. `other` counts the runs that did not end as the answers of their record say: a refused Find ends a run by
 /// R4, each refused Put is a note, and no Put is done after one that was refused. `less` counts the records that lack, once they are opened again, a
 /// row that was there before or whose Put was answered done; `more` those that hold a row beside these and that of the first refused Put.
 /// With `power_cut` the machine goes down with the program. A script `before` is that of a run that comes before, and is not stopped.
-pub fn answer(alloc: Global, row: &Row) -> Result<String, RowFault> {
-    let case = case_of(alloc, row)?;
-    let answer = answer_of(alloc, row, &case);
-    mem::drop(case);
-    answer
-}
-
-fn answer_of(alloc: Global, row: &Row, case: &Case) -> Result<String, RowFault> {
+pub fn put_answer(
+    alloc: Global,
+    row: &Row,
+    case: &Case,
+    out: &mut AnswerText,
+) -> Result<(), RowFault> {
     let start = start_of(alloc, row, case)?;
-    let answer = answer_from(alloc, row, case, &start);
+    let seen = seen_from(alloc, row, case, &start);
     mem::drop(start);
-    answer
+    put_seen(out, seen?);
+    Ok(())
 }
 
-fn answer_from(alloc: Global, row: &Row, case: &Case, start: &Disks) -> Result<String, RowFault> {
+fn seen_from(alloc: Global, row: &Row, case: &Case, start: &Disks) -> Result<Seen, RowFault> {
     let power_cut = row.flag("power_cut")?;
     let whole = whole_from(alloc, row, case, start)?;
     let seen = seen_by(&Trial {
@@ -85,20 +82,21 @@ fn answer_from(alloc: Global, row: &Row, case: &Case, start: &Disks) -> Result<S
         whole: &whole,
     });
     mem::drop(whole);
-    seen_text(alloc, seen?)
+    seen
 }
 
-fn seen_text(alloc: Global, seen: Seen) -> Result<String, RowFault> {
-    let Seen {
-        find,
-        put,
-        other,
-        less,
-        more,
-    } = seen;
-    Ok(format!(in alloc;
-        "{{\"find\":{find},\"put\":{put},\"other\":{other},\"less\":{less},\"more\":{more}}}"
-    )?)
+fn put_seen(out: &mut AnswerText, seen: Seen) {
+    out.put("{\"find\":");
+    out.put_flag(seen.find);
+    out.put(",\"put\":");
+    out.put_flag(seen.put);
+    out.put(",\"other\":");
+    out.put_natural(seen.other);
+    out.put(",\"less\":");
+    out.put_natural(seen.less);
+    out.put(",\"more\":");
+    out.put_natural(seen.more);
+    out.put("}");
 }
 
 /// The files on which the run starts: those of a record after the run `before`, where there is one.
@@ -171,15 +169,7 @@ fn came_on(
     requires { host.old.running ≡ [] }
 {
     let options = options_with(alloc, row, true)?;
-    let end = run(
-        alloc,
-        host,
-        store,
-        case.process.as_process(),
-        &case.inputs,
-        options,
-        &mut Unwatched,
-    );
+    let end = end_over(alloc, case, host, store, options);
     let came = came_of(store.log(), &end);
     mem::drop(end);
     Ok(came)

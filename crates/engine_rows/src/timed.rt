@@ -1,14 +1,11 @@
 //! How long the machine takes over a run, and how long the unfolding of its process takes alone.
-ghost use Rattle.run_core.specs.Limits.{IsWithinLimits};
-
 use crate::alone::{Chance, drive, left_at, one_byte};
-use crate::run::{Case, case_of, options_of};
+use crate::run::{Case, case_of, core_of};
 use cwl_value::{FileVal, JobPlace, Place, Value, copy_job};
 use job_graph::{Unfolding, input_paths};
-use plain_data::{Items, Keyed, Text};
+use plain_data::{Items, Keyed};
 use row_io::{Row, RowFault};
-use run_core::{Options, RunCore};
-use staging::Measure;
+use staging::{Found, Measure};
 use std::alloc::{AllocError, Global};
 use std::mem;
 use std::time::Instant;
@@ -29,13 +26,8 @@ fn times_of(rt: &HostRuntime, row: &Row, case: &Case) -> Result<String, RowFault
 
 fn micros_of_run(rt: &HostRuntime, row: &Row, case: &Case) -> Result<u128, RowFault> {
     let start = now(rt)?;
-    run_of(rt.alloc(), row, case)?;
+    run_through(rt.alloc(), row, case)?;
     micros_since(rt, start)
-}
-
-fn run_of(alloc: Global, row: &Row, case: &Case) -> Result<(), RowFault> {
-    let options = options_of(alloc, row)?;
-    run_through(alloc, case, options)
 }
 
 fn now(rt: &HostRuntime) -> Result<Instant, RowFault> {
@@ -50,12 +42,8 @@ fn micros_since(rt: &HostRuntime, start: Instant) -> Result<u128, RowFault> {
 }
 
 /// Runs a process whose jobs all succeed.
-fn run_through(alloc: Global, case: &Case, options: Options) -> Result<(), RowFault>
-    requires { IsWithinLimits options }
-{
-    let Ok(mut core) = RunCore::new(alloc, case.process.as_process(), &case.inputs, options) else {
-        return Err(RowFault::OutOfMemory);
-    };
+fn run_through(alloc: Global, row: &Row, case: &Case) -> Result<(), RowFault> {
+    let mut core = core_of(alloc, row, case, false)?;
     let driven = drive(alloc, &mut core, &mut Chance::new(0));
     mem::drop(core);
     driven
@@ -118,17 +106,37 @@ const MOST_JOBS: usize = 20_000;
 
 /// The one output `o` of a job: the file that it left behind.
 fn outputs_at(alloc: Global, place: &JobPlace) -> Result<Keyed<Value>, AllocError> {
+    let left = left_at(alloc, place)?;
+    let outputs = outputs_of(alloc, left.as_slice());
+    mem::drop(left);
+    outputs
+}
+
+fn outputs_of(alloc: Global, all: &[Found]) -> Result<Keyed<Value>, AllocError> {
     let mut outputs = Keyed::new(alloc);
-    for left in left_at(alloc, place)?.into_vec() {
-        let file = FileVal {
-            place: Place::Url(left.name.copied(alloc)?),
-            basename: Some(left.name.copied(alloc)?),
-            checksum: Some(left.sum),
-            size: Some(left.size),
-            contents: None,
-            secondary: Items::new(alloc),
-        };
-        drop(outputs.insert(left.name, Value::FileVal(file))?);
+    for left in all {
+        add_output(alloc, &mut outputs, left)?;
     }
     Ok(outputs)
+}
+
+fn add_output(alloc: Global, outputs: &mut Keyed<Value>, left: &Found) -> Result<(), AllocError> {
+    let name = left.name.copied(alloc)?;
+    let file = file_of(alloc, left)?;
+    mem::drop(outputs.insert(name, file)?);
+    Ok(())
+}
+
+fn file_of(alloc: Global, left: &Found) -> Result<Value, AllocError> {
+    let path = left.name.copied(alloc)?;
+    let basename = left.name.copied(alloc)?;
+    let checksum = left.sum.copied(alloc)?;
+    Ok(Value::FileVal(FileVal {
+        place: Place::Url(path),
+        basename: Some(basename),
+        checksum: Some(checksum),
+        size: Some(left.size),
+        contents: None,
+        secondary: Items::new(alloc),
+    }))
 }

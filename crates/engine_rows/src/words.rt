@@ -2,22 +2,22 @@ use crate::script::code_of;
 use cwl_process::ExitCodes;
 use plain_data::Items;
 use proc_host::{ExitClass, HostFault, classify};
-use row_io::{Row, RowFault, quoted};
+use row_io::{AnswerText, Row, RowFault};
 use std::alloc::Global;
+use std::mem;
 
-/// The class of an exit code, by the row's lists of codes.
-pub fn class(alloc: Global, row: &Row) -> Result<String, RowFault> {
+/// Writes the class of an exit code, by the row's lists of codes.
+pub fn put_class(alloc: Global, row: &Row, out: &mut AnswerText) -> Result<(), RowFault> {
     let code = code_of(row.json("code")?)?;
     let codes = codes_of(alloc, row)?;
     let class = classify(&codes, code);
-    quoted(
-        alloc,
-        match class {
-            ExitClass::Success => "Success",
-            ExitClass::Temporary => "Temporary",
-            ExitClass::Permanent => "Permanent",
-        },
-    )
+    mem::drop(codes);
+    out.put_quoted(match class {
+        ExitClass::Success => "Success",
+        ExitClass::Temporary => "Temporary",
+        ExitClass::Permanent => "Permanent",
+    });
+    Ok(())
 }
 
 fn codes_of(alloc: Global, row: &Row) -> Result<ExitCodes, RowFault> {
@@ -42,10 +42,11 @@ fn ints(alloc: Global, row: &Row, name: &str) -> Result<Items<i32>, RowFault> {
     Ok(codes)
 }
 
-/// The code of a fault of the host.
-pub fn fault(alloc: Global, row: &Row) -> Result<String, RowFault> {
+/// Writes the code of a fault of the host.
+pub fn put_fault_code(row: &Row, out: &mut AnswerText) -> Result<(), RowFault> {
     let fault = fault_named(row.text("fault")?).ok_or(RowFault::BadArgument)?;
-    Ok(String::from_str(alloc, fault.code())?)
+    out.put(fault.code());
+    Ok(())
 }
 
 fn fault_named(name: &str) -> Option<HostFault> {

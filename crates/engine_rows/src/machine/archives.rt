@@ -1,50 +1,35 @@
 use crate::machine::listing::{put_fault, put_listing};
-use crate::machine::place::{below, prepared};
+use crate::machine::place::below;
 use crate::machine::shell::put_said;
 use crate::script::listing_of;
 use plain_data::{Items, Text};
 use proc_host::{Host, HostError};
-use process_machine::{Machine, World};
 use row_io::{AnswerText, Row, RowFault};
 use serde_json::Value as Json;
 use staging::Found;
 use std::alloc::Global;
 use std::mem;
 
-/// What a row's steps answer, one after the other, of a host that keeps its archive in the row's `archive`, where the row has one.
+/// Writes what a row's steps answer, one after the other, of a host that keeps its archive in the row's `archive`, where the row has one.
 ///
 /// A step is `{"scan":FOLDER}`, the listing of a folder; `{"files":LISTING}`; `{"store":[KEY,FOLDER]}` and `{"fetch":[KEY,NUMBER]}`,
 /// both of the files that were listed last; or `{"sh":SCRIPT}`, which answers what the shell writes.
-pub fn told_of(rt: &HostRuntime, row: &Row, place: &str) -> Result<String, RowFault> {
-    prepared(rt, row, place)?;
-    let mut host = machine_of(rt, row, place)?;
-    let mut out = AnswerText::new(rt.alloc());
-    let mut files = Items::new(rt.alloc());
-    out.put("[");
-    for step in row.list("steps")? {
-        out.put_comma();
-        take_step(rt, &mut host, step, place, &mut files, &mut out)?;
-    }
-    out.put("]");
-    out.finish()
-}
-
-fn machine_of<'a>(
-    rt: &'a HostRuntime,
+pub fn put_told<H: Host>(
+    rt: &HostRuntime,
+    host: &mut H,
     row: &Row,
     place: &str,
-) -> Result<Machine<&'a HostRuntime>, RowFault> {
-    let archive = archive_of(rt.alloc(), row, place)?;
-    let work = Text::from_text(rt.alloc(), place)?;
-    let outdir = below(rt.alloc(), place, "results")?;
-    Ok(Machine::new(rt, work, archive, outdir))
-}
-
-fn archive_of(alloc: Global, row: &Row, place: &str) -> Result<Option<Text>, RowFault> {
-    match row.find("archive") {
-        None => Ok(None),
-        Some(_) => Ok(Some(below(alloc, place, row.text("archive")?)?)),
+    out: &mut AnswerText,
+) -> Result<(), RowFault> {
+    let steps = row.list("steps")?;
+    let mut files = Items::new(rt.alloc());
+    out.put("[");
+    for step in steps {
+        out.put_comma();
+        take_step(rt, host, step, place, &mut files, out)?;
     }
+    out.put("]");
+    Ok(())
 }
 
 fn take_step<H: Host>(
@@ -108,14 +93,14 @@ fn put_scanned<H: Host>(
     }
 }
 
-fn put_done(outcome: Result<(), HostError>, out: &mut AnswerText) {
+pub fn put_done(outcome: Result<(), HostError>, out: &mut AnswerText) {
     match outcome {
         Ok(()) => out.put_quoted("done"),
         Err(error) => put_fault(out, error),
     }
 }
 
-fn put_fetched(outcome: Result<Items<Found>, HostError>, out: &mut AnswerText) {
+pub fn put_fetched(outcome: Result<Items<Found>, HostError>, out: &mut AnswerText) {
     match outcome {
         Ok(found) => put_listing(out, found.as_slice()),
         Err(error) => put_fault(out, error),

@@ -1,12 +1,14 @@
 use crate::machine::listing::{put_code, put_fault, put_listing};
-use crate::machine::place::{below, empty_plan, machine, prepared};
+use crate::machine::place::{below, empty_plan};
 use command_line::{Launch, Variable};
 use plain_data::{Items, Text};
 use proc_host::{ChildEnd, Host};
-use process_machine::{last_lines, messages_file};
+use process_machine::{Machine, World, last_lines, messages_file};
 use row_io::{AnswerText, Row, RowFault};
 use serde_json::Value as Json;
 use std::alloc::Global;
+use std::mem;
+use std::process::Stdio;
 
 /// What a row wants to be told beside an end: the listing of a folder, and the last messages of the child.
 #[derive(Drop)]
@@ -15,21 +17,28 @@ struct Wanted {
     last: bool,
 }
 
-/// How a child of these words ended, what is in its output folder then, and after that what the row wants to be told.
-pub fn told_of(rt: &HostRuntime, row: &Row, place: &str) -> Result<String, RowFault> {
-    prepared(rt, row, place)?;
-    let launch = launch_of(rt.alloc(), row, place)?;
+/// Writes how a child of these words ended, what is in its output folder then, and after that what the row wants to be told.
+pub fn put_told<R: World>(
+    rt: &HostRuntime,
+    host: &mut Machine<R>,
+    row: &Row,
+    place: &str,
+    out: &mut AnswerText,
+) -> Result<(), RowFault>
+where
+    R::File: Into<Stdio>,
+{
+    if row.find("keeps").is_some() {
+        host.keep_folders();
+    }
     let wanted = Wanted {
         listed: path_of(rt.alloc(), row, "listed", place)?,
         last: row.find("last").is_some(),
     };
-    let mut host = machine(rt, place)?;
-    if row.find("keeps").is_some() {
-        host.keep_folders();
-    }
-    let mut out = AnswerText::new(rt.alloc());
-    stage_and_run(rt, &mut host, &launch, &wanted, &mut out);
-    out.finish()
+    let launch = launch_of(rt.alloc(), row, place)?;
+    stage_and_run(rt, host, &launch, &wanted, out);
+    mem::drop(launch);
+    Ok(())
 }
 
 fn stage_and_run<H: Host>(
@@ -40,7 +49,9 @@ fn stage_and_run<H: Host>(
     out: &mut AnswerText,
 ) {
     let plan = empty_plan(rt.alloc());
-    match host.stage(&plan, 1) {
+    let staged = host.stage(&plan, 1);
+    mem::drop(plan);
+    match staged {
         Ok(()) => run(rt, host, launch, wanted, out),
         Err(error) => put_fault(out, error),
     }
@@ -123,14 +134,31 @@ pub fn launch_with(
     place: &str,
     words: Items<Text>,
 ) -> Result<Launch, RowFault> {
-    Ok(Launch {
+    let dir = below(alloc, place, "j1/out")?;
+    let mut launch = Launch {
         words,
-        env: env_of(alloc, row)?,
-        stdin: path_of(alloc, row, "stdin", place)?,
-        stdout: name_of(alloc, row, "stdout")?,
-        stderr: name_of(alloc, row, "stderr")?,
-        dir: below(alloc, place, "j1/out")?,
-    })
+        env: Items::new(alloc),
+        stdin: None,
+        stdout: None,
+        stderr: None,
+        dir,
+    };
+    match fill(alloc, row, place, &mut launch) {
+        Ok(()) => Ok(launch),
+        Err(fault) => {
+            mem::drop(launch);
+            Err(fault)
+        }
+    }
+}
+
+/// Gives a launch the row's environment and streams, one after the other: none is alive where another one fails.
+fn fill(alloc: Global, row: &Row, place: &str, launch: &mut Launch) -> Result<(), RowFault> {
+    mem::drop(mem::replace(&mut launch.env, env_of(alloc, row)?));
+    mem::drop(mem::replace(&mut launch.stdin, path_of(alloc, row, "stdin", place)?));
+    mem::drop(mem::replace(&mut launch.stdout, name_of(alloc, row, "stdout")?));
+    mem::drop(mem::replace(&mut launch.stderr, name_of(alloc, row, "stderr")?));
+    Ok(())
 }
 
 /// Words, each a text.

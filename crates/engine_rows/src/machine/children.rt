@@ -1,35 +1,47 @@
 use crate::machine::child::{launch_with, words_in};
 use crate::machine::listing::{put_code, put_fault};
-use crate::machine::place::{empty_plan, machine};
+use crate::machine::place::empty_plan;
 use proc_host::{ChildEnd, Host, Ticket};
 use process_machine::{Machine, World};
 use row_io::{AnswerText, Row, RowFault};
 use serde_json::Value as Json;
 use std::alloc::Global;
+use std::mem;
 use std::process::Stdio;
 use std::rt::Clock;
 use std::time::Duration;
 
-/// The tickets and exit codes of several children at once, in the order in which they are collected. The first is
+/// Writes the tickets and exit codes of several children at once, in the order in which they are collected. The first is
 /// collected a little after the last was started.
-pub fn told_of(rt: &HostRuntime, row: &Row, place: &str) -> Result<String, RowFault> {
-    let mut host = machine(rt, place)?;
-    let mut out = AnswerText::new(rt.alloc());
-    let plan = empty_plan(rt.alloc());
-    match host.stage(&plan, 1) {
-        Ok(()) => run_all(rt, &mut host, row, place, &mut out),
-        Err(error) => put_fault(&mut out, error),
-    }
-    out.finish()
-}
-
-fn run_all(
+pub fn put_told<R: World>(
     rt: &HostRuntime,
-    host: &mut Machine<&HostRuntime>,
+    host: &mut Machine<R>,
     row: &Row,
     place: &str,
     out: &mut AnswerText,
-) {
+)
+where
+    R::File: Into<Stdio>,
+{
+    let plan = empty_plan(rt.alloc());
+    let staged = host.stage(&plan, 1);
+    mem::drop(plan);
+    match staged {
+        Ok(()) => run_all(rt, host, row, place, out),
+        Err(error) => put_fault(out, error),
+    }
+}
+
+fn run_all<R: World>(
+    rt: &HostRuntime,
+    host: &mut Machine<R>,
+    row: &Row,
+    place: &str,
+    out: &mut AnswerText,
+)
+where
+    R::File: Into<Stdio>,
+{
     let mut held = Vec::new(rt.alloc());
     match start_all(rt.alloc(), host, row, place, &mut held) {
         Ok(()) => {
@@ -67,7 +79,9 @@ fn start<H: Host>(
 ) -> Result<Option<Ticket>, RowFault> {
     let words = words_in(alloc, child.as_array().ok_or(RowFault::BadArgument)?)?;
     let launch = launch_with(alloc, row, place, words)?;
-    Ok(host.start(&launch).ok())
+    let started = host.start(&launch).ok();
+    mem::drop(launch);
+    Ok(started)
 }
 
 fn collect_all<R: World>(host: &mut Machine<R>, count: usize, out: &mut AnswerText)
@@ -96,7 +110,8 @@ fn put_end(out: &mut AnswerText, ending: &ChildEnd) {
     out.put("]");
 }
 
-fn close_all<H: Host>(host: &mut H, mut held: Vec<Ticket>) {
+/// Closes all these tickets.
+pub fn close_all<H: Host>(host: &mut H, mut held: Vec<Ticket>) {
     while let Some(ticket) = held.pop() {
         host.close(ticket);
     }

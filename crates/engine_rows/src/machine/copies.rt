@@ -1,6 +1,6 @@
 use crate::machine::child::put_folder;
 use crate::machine::listing::put_fault;
-use crate::machine::place::{below, machine, prepared};
+use crate::machine::place::below;
 use plain_data::{Items, Keyed, Text};
 use proc_host::{Host, HostError};
 use process_machine::{Hindrance, Machine, Undelivered, World};
@@ -8,21 +8,41 @@ use row_io::{AnswerText, Row, RowFault};
 use serde_json::Value as Json;
 use staging::{Move, StagePlan};
 use std::alloc::Global;
+use std::mem;
+use std::process::Stdio;
 
-/// What a stage or a delivery of these moves answers, once these paths were measured, and what the row's folder holds then.
-pub fn told_of(rt: &HostRuntime, row: &Row, place: &str) -> Result<String, RowFault> {
-    prepared(rt, row, place)?;
-    let plan = plan_of(rt.alloc(), row, place)?;
-    let folder = Text::from_text(rt.alloc(), place)?;
-    let mut host = machine(rt, place)?;
-    measure_all(rt.alloc(), &mut host, row, place)?;
-    let mut out = AnswerText::new(rt.alloc());
-    copy(&mut host, row, &plan, &folder, &mut out);
+/// Writes what a stage or a delivery of these moves answers, once these paths were measured, and what the row's folder holds then.
+pub fn put_told<R: World>(
+    alloc: Global,
+    host: &mut Machine<R>,
+    row: &Row,
+    place: &str,
+    out: &mut AnswerText,
+) -> Result<(), RowFault>
+where
+    R::File: Into<Stdio>,
+{
+    measure_all(alloc, host, row, place)?;
+    put_copied(alloc, host, row, place, out)?;
     if row.find("why").is_some() {
-        put_why(&host, place, &mut out);
+        put_why(host, place, out);
     }
     out.put("}");
-    out.finish()
+    Ok(())
+}
+
+fn put_copied<H: Host>(
+    alloc: Global,
+    host: &mut H,
+    row: &Row,
+    place: &str,
+    out: &mut AnswerText,
+) -> Result<(), RowFault> {
+    let folder = Text::from_text(alloc, place)?;
+    let plan = plan_of(alloc, row, place)?;
+    copy(host, row, &plan, &folder, out);
+    mem::drop(plan);
+    Ok(())
 }
 
 // Adds which result could not be copied, and why.

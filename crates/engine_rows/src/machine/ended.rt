@@ -2,23 +2,21 @@
 ghost use Rattle.std.specs.Prelude.{◌≡◌, [], IfOk};
 ghost use Rattle.run_core.specs.Limits.{IsWithinLimits};
 
-use crate::archived::failure_of;
-use crate::end::end_json;
+use crate::end::{put_end, put_numbers};
 use crate::failing::Failing;
-use crate::list::numbers;
 use crate::lost::Loss;
 use crate::machine::listing::{put_fault, put_measure};
 use crate::machine::place::{below, done, machine};
-use crate::run::{Case, Paths, options_at};
-use job_rows::{Command, Entry as Asked, MemoryRecord};
+use crate::run::{Case, Paths, end_over, options_at};
+use crate::runs::failure_of;
+use job_rows::{Command, Entry as Asked, MemoryRecord, Record};
 use plain_data::Text;
 use proc_host::{Entry, Host, HostAnswer};
 use process_machine::Machine;
 use row_io::{AnswerText, Row, RowFault};
-use run_core::{Note, Options, Outcome, Report, RunFault};
+use run_core::{Options, Outcome, Report, RunFault};
 use std::alloc::Global;
 use std::{fs, mem};
-use workflow_engine::{Unwatched, run};
 
 /// What a row's runs are of, and the folder that they have below the row's.
 #[derive(Drop)]
@@ -122,7 +120,7 @@ fn options_of(trial: &Trial<'_>, leg: &Leg<'_>) -> Result<Options, RowFault>
     options_at(trial.row, true, paths)
 }
 
-fn host_of<'a>(trial: &Trial<'a>, leg: &Leg<'_>) -> Result<Failing<'a>, RowFault>
+fn host_of<'a>(trial: &Trial<'a>, leg: &Leg<'_>) -> Result<Failing<&'a HostRuntime>, RowFault>
     ensures { IfOk result (λ host. host.running ≡ []) }
 {
     let alloc = trial.rt.alloc();
@@ -141,45 +139,43 @@ fn loss_of(row: &Row) -> Loss {
     }
 }
 
-fn texts_on(
+fn texts_on<H: Host, K: Record>(
     trial: &Trial<'_>,
-    rows: &mut MemoryRecord,
+    rows: &mut K,
     leg: &Leg<'_>,
-    host: &mut Failing<'_>,
+    host: &mut H,
 ) -> Result<EndTexts, RowFault>
-    requires { host.old.running ≡ [] }
+    requires { H.running host.old ≡ [] }
 {
     let options = options_of(trial, leg)?;
     texts_over(trial.rt.alloc(), trial.case, rows, host, options)
 }
 
-fn texts_over(
+fn texts_over<H: Host, K: Record>(
     alloc: Global,
     case: &Case,
-    rows: &mut MemoryRecord,
-    host: &mut Failing<'_>,
+    rows: &mut K,
+    host: &mut H,
     options: Options,
 ) -> Result<EndTexts, RowFault>
-    requires idle { host.old.running ≡ [] }
+    requires idle { H.running host.old ≡ [] }
     requires limits { IsWithinLimits options }
 {
-    let end = run(
-        alloc,
-        host,
-        rows,
-        case.process.as_process(),
-        &case.inputs,
-        options,
-        &mut Unwatched,
-    );
+    let end = end_over(alloc, case, host, rows, options);
     let texts = texts_of(alloc, &end);
     mem::drop(end);
     texts
 }
 
 fn texts_of(alloc: Global, end: &Result<Report, RunFault>) -> Result<EndTexts, RowFault> {
-    let report = report_text(alloc, end)?;
-    let end = end_text(alloc, end)?;
+    let mut report = AnswerText::new(alloc);
+    if end.is_ok() {
+        put_end(alloc, &mut report, end);
+    }
+    let mut words = AnswerText::new(alloc);
+    put_words(&mut words, end);
+    let report = report.finish()?;
+    let end = words.finish()?;
     Ok(EndTexts { end, report })
 }
 
@@ -205,32 +201,25 @@ fn ends(log: &[Entry]) -> u64 {
     count
 }
 
-fn report_text(alloc: Global, end: &Result<Report, RunFault>) -> Result<String, RowFault> {
+/// Writes the code of a run's fault, with the tickets that nobody waits for any more; or the name of its outcome, with what was noted.
+fn put_words(out: &mut AnswerText, end: &Result<Report, RunFault>) {
     match end {
-        Ok(_) => end_json(alloc, end),
-        Err(_) => Ok(String::new(alloc)),
+        Ok(report) => put_report(out, report),
+        Err(RunFault::Host(fault, running)) => {
+            out.put(fault.code());
+            put_running(out, running.as_slice());
+        }
+        Err(RunFault::Record(refusal)) => out.put(refusal.code()),
+        Err(RunFault::Mismatch(_)) => out.put("Mismatch"),
+        Err(RunFault::TooManyJobs) => out.put("TooManyJobs"),
+        Err(RunFault::OutOfMemory) => out.put("OutOfMemory"),
     }
 }
 
-/// The code of a run's fault, with the tickets that nobody waits for any more; or the name of its outcome, with what was noted.
-fn end_text(alloc: Global, end: &Result<Report, RunFault>) -> Result<String, RowFault> {
-    match end {
-        Ok(report) => noted_text(
-            alloc,
-            outcome_name(&report.outcome),
-            report.notes.as_slice(),
-        ),
-        Err(RunFault::Host(fault, running)) if running.is_empty() => {
-            Ok(String::from_str(alloc, fault.code())?)
-        }
-        Err(RunFault::Host(fault, running)) => {
-            let running = numbers(alloc, running.as_slice())?;
-            Ok(format!(in alloc; "{} {running}", fault.code())?)
-        }
-        Err(RunFault::Record(refusal)) => Ok(String::from_str(alloc, refusal.code())?),
-        Err(RunFault::Mismatch(_)) => Ok(String::from_str(alloc, "Mismatch")?),
-        Err(RunFault::TooManyJobs) => Ok(String::from_str(alloc, "TooManyJobs")?),
-        Err(RunFault::OutOfMemory) => Ok(String::from_str(alloc, "OutOfMemory")?),
+fn put_running(out: &mut AnswerText, running: &[u64]) {
+    if !running.is_empty() {
+        out.put(" ");
+        put_numbers(out, running);
     }
 }
 
@@ -242,14 +231,15 @@ fn outcome_name(outcome: &Outcome) -> &'static str {
     }
 }
 
-fn noted_text(alloc: Global, name: &str, notes: &[Note]) -> Result<String, RowFault> {
-    let mut text = String::from_str(alloc, name)?;
-    for note in notes {
+fn put_report(out: &mut AnswerText, report: &Report) {
+    out.put(outcome_name(&report.outcome));
+    for note in report.notes.as_slice() {
         let (call, code) = failure_of(&note.kind);
-        let noted = format!(in alloc; ", {call} {code}")?;
-        text.push_str(noted.as_str())?;
+        out.put(", ");
+        out.put(call);
+        out.put(" ");
+        out.put(code);
     }
-    Ok(text)
 }
 
 fn found_at(trial: &Trial<'_>, leg: &Leg<'_>) -> Result<String, RowFault> {
@@ -260,5 +250,6 @@ fn found_at(trial: &Trial<'_>, leg: &Leg<'_>) -> Result<String, RowFault> {
         Ok(measure) => put_measure(&mut out, &measure),
         Err(error) => put_fault(&mut out, error),
     }
+    mem::drop(host);
     out.finish()
 }

@@ -1,10 +1,11 @@
 //! Runs over real children and real files in which each call of the host fails in turn.
 
 use crate::machine::ended::{Ended, Leg, Trial, end_of_run};
-use crate::machine::place::{done, prepared};
-use crate::run::case_at;
+use crate::machine::place::done;
+use crate::run::{Case, case_at};
 use job_rows::MemoryRecord;
 use row_io::{AnswerText, Row, RowFault};
+use std::alloc::Global;
 use std::{fs, mem};
 
 /// A run in which a call of the host fails, where one does, and after it one over the same record and archive in which none does.
@@ -26,23 +27,35 @@ struct Kept {
 /// has nothing then, or all; `rows` that it put no more rows than children ended; `again` that the run after it ends as one
 /// that nothing failed, with the same in OUTDIR. Where the row is `warm`, a run that nothing fails comes before each.
 pub fn told_of(rt: &HostRuntime, row: &Row, place: &str) -> Result<String, RowFault> {
-    prepared(rt, row, place)?;
-    let alloc = rt.alloc();
-    let location = format!(in alloc; "file://{place}/inputs.json")?;
-    let folder = format!(in alloc; "{place}/run")?;
-    let case = case_at(alloc, row, location.as_str())?;
-    let told = told_by(&Trial {
-        rt,
-        row,
-        case: &case,
-        folder: folder.as_str(),
-    });
+    let case = case_in(rt.alloc(), row, place)?;
+    let told = told_with(rt, row, place, &case);
     mem::drop(case);
     told
 }
 
+fn case_in(alloc: Global, row: &Row, place: &str) -> Result<Case, RowFault> {
+    let location = format!(in alloc; "file://{place}/inputs.json")?;
+    case_at(alloc, row, location.as_str())
+}
+
+fn told_with(rt: &HostRuntime, row: &Row, place: &str, case: &Case) -> Result<String, RowFault> {
+    let folder = format!(in rt.alloc(); "{place}/run")?;
+    told_by(&Trial {
+        rt,
+        row,
+        case,
+        folder: folder.as_str(),
+    })
+}
+
 fn told_by(trial: &Trial<'_>) -> Result<String, RowFault> {
     let whole = both_runs(trial, None)?;
+    let told = told_beside(trial, &whole);
+    mem::drop(whole);
+    told
+}
+
+fn told_beside(trial: &Trial<'_>, whole: &Tried) -> Result<String, RowFault> {
     let mut kept = Kept {
         whole: true,
         rows: true,
@@ -51,14 +64,26 @@ fn told_by(trial: &Trial<'_>) -> Result<String, RowFault> {
     let mut out = AnswerText::new(trial.rt.alloc());
     out.put("{\"ends\":[");
     for left in 0..whole.first.counts.calls {
-        let tried = both_runs(trial, Some(left))?;
-        put_end(&mut out, &tried.first);
-        kept = kept_with(kept, &tried, &whole.first);
+        kept = kept_after(trial, left, kept, &whole.first, &mut out)?;
     }
     out.put("]");
     put_kept(&mut out, kept);
     out.put("}");
     out.finish()
+}
+
+fn kept_after(
+    trial: &Trial<'_>,
+    left: u64,
+    kept: Kept,
+    whole: &Ended,
+    out: &mut AnswerText,
+) -> Result<Kept, RowFault> {
+    let tried = both_runs(trial, Some(left))?;
+    put_end(out, &tried.first);
+    let kept = kept_with(kept, &tried, whole);
+    mem::drop(tried);
+    Ok(kept)
 }
 
 fn put_end(out: &mut AnswerText, ended: &Ended) {
@@ -100,13 +125,22 @@ fn is_as(again: &Ended, whole: &Ended) -> bool {
 
 /// A run over a new record and archive whose host fails the call after so many, or none, and the run after it.
 fn both_runs(trial: &Trial<'_>, left: Option<u64>) -> Result<Tried, RowFault> {
-    let archive = format!(in trial.rt.alloc(); "{}/archive", trial.folder)?;
-    done(fs::create_dir_all(trial.rt, archive.as_str()))?;
+    archive_made(trial)?;
     let mut rows = MemoryRecord::new(trial.rt.alloc());
     let tried = tried_over(trial, left, &mut rows);
     mem::drop(rows);
-    done(fs::remove_dir_all(trial.rt, trial.folder))?;
-    tried
+    match done(fs::remove_dir_all(trial.rt, trial.folder)) {
+        Ok(()) => tried,
+        Err(fault) => {
+            mem::drop(tried);
+            Err(fault)
+        }
+    }
+}
+
+fn archive_made(trial: &Trial<'_>) -> Result<(), RowFault> {
+    let archive = format!(in trial.rt.alloc(); "{}/archive", trial.folder)?;
+    done(fs::create_dir_all(trial.rt, archive.as_str()))
 }
 
 fn tried_over(
@@ -119,8 +153,13 @@ fn tried_over(
         mem::drop(before);
     }
     let first = end_of_run(trial, rows, &leg("work", "results", left))?;
-    let again = end_of_run(trial, rows, &leg("again", "results", None))?;
-    Ok(Tried { first, again })
+    match end_of_run(trial, rows, &leg("again", "results", None)) {
+        Ok(again) => Ok(Tried { first, again }),
+        Err(fault) => {
+            mem::drop(first);
+            Err(fault)
+        }
+    }
 }
 
 fn leg<'a>(work: &'a str, outdir: &'a str, left: Option<u64>) -> Leg<'a> {

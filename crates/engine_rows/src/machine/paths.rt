@@ -1,45 +1,54 @@
 use crate::machine::child::put_folder;
-use crate::machine::listing::{put_fault, put_listing, put_measure};
-use crate::machine::place::{below, machine, prepared};
+use crate::machine::listing::{put_fault, put_measure};
+use crate::machine::place::below;
 use plain_data::Text;
 use proc_host::Host;
 use process_machine::{Machine, Obstacle, Unlisted, World, remove_folder};
 use row_io::{AnswerText, Row, RowFault};
+use std::alloc::Global;
+use std::process::Stdio;
 use std::str;
 
-/// What a measure, a scan or a head of a path answers, and nothing of it is left behind.
-pub fn told_of(rt: &HostRuntime, row: &Row, place: &str) -> Result<String, RowFault> {
-    prepared(rt, row, place)?;
-    let path = below(rt.alloc(), place, row.text("path")?)?;
-    let mut host = machine(rt, place)?;
-    let mut out = AnswerText::new(rt.alloc());
-    if row.find("why").is_some() {
-        out.put("[");
-        put_told(&mut host, row, &path, &mut out)?;
-        put_why(&host, place, &mut out);
-        out.put("]");
-    } else {
-        put_told(&mut host, row, &path, &mut out)?;
+/// Writes what a measure, a scan or a head of a path answers, and nothing of it is left behind.
+pub fn put_told<R: World>(
+    alloc: Global,
+    host: &mut Machine<R>,
+    row: &Row,
+    place: &str,
+    out: &mut AnswerText,
+) -> Result<(), RowFault>
+where
+    R::File: Into<Stdio>,
+{
+    if row.find("why").is_none() {
+        return put_called(alloc, host, row, place, out);
     }
-    out.finish()
+    out.put("[");
+    put_called(alloc, host, row, place, out)?;
+    put_why(host, place, out);
+    out.put("]");
+    Ok(())
 }
 
-/// Whether a folder was removed, and what the row's folder holds then.
-pub fn removed_of(rt: &HostRuntime, row: &Row, place: &str) -> Result<String, RowFault> {
-    prepared(rt, row, place)?;
+/// Writes whether a folder was removed, and what the row's folder holds then.
+pub fn put_removed<H: Host>(
+    rt: &HostRuntime,
+    host: &mut H,
+    row: &Row,
+    place: &str,
+    out: &mut AnswerText,
+) -> Result<(), RowFault> {
     let path = below(rt.alloc(), place, row.text("path")?)?;
     let folder = Text::from_text(rt.alloc(), place)?;
-    let mut host = machine(rt, place)?;
-    let mut out = AnswerText::new(rt.alloc());
     out.put("{\"call\":");
     out.put_quoted(match remove_folder(rt, path.as_str()) {
         Ok(()) => "done",
         Err(_) => "failed",
     });
     out.put(",\"found\":");
-    put_folder(&mut host, &folder, &mut out);
+    put_folder(host, &folder, out);
     out.put("}");
-    out.finish()
+    Ok(())
 }
 
 // Adds what kept a scan from a listing, and why.
@@ -68,16 +77,18 @@ fn obstacle_name(why: Obstacle) -> &'static str {
     }
 }
 
-fn put_told<H: Host>(
+fn put_called<H: Host>(
+    alloc: Global,
     host: &mut H,
     row: &Row,
-    path: &Text,
+    place: &str,
     out: &mut AnswerText,
 ) -> Result<(), RowFault> {
+    let path = below(alloc, place, row.text("path")?)?;
     match row.call() {
-        "measure" => put_measured(host, path, out),
-        "scan" => put_scanned(host, path, out),
-        _ => put_head(host, path, row.natural("limit")?, out),
+        "measure" => put_measured(host, &path, out),
+        "scan" => put_folder(host, &path, out),
+        _ => put_head(host, &path, row.natural("limit")?, out),
     }
     Ok(())
 }
@@ -89,15 +100,8 @@ fn put_measured<H: Host>(host: &mut H, path: &Text, out: &mut AnswerText) {
     }
 }
 
-fn put_scanned<H: Host>(host: &mut H, path: &Text, out: &mut AnswerText) {
-    match host.scan(path) {
-        Ok(found) => put_listing(out, found.as_slice()),
-        Err(error) => put_fault(out, error),
-    }
-}
-
-// First bytes that are a text; of others how many there are.
-fn put_head<H: Host>(host: &mut H, path: &Text, limit: u64, out: &mut AnswerText) {
+/// Writes first bytes that are a text; of others how many there are.
+pub fn put_head<H: Host>(host: &mut H, path: &Text, limit: u64, out: &mut AnswerText) {
     match host.head(path, limit) {
         Ok(bytes) => put_bytes(out, bytes.as_slice()),
         Err(error) => put_fault(out, error),

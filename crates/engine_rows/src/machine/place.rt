@@ -68,9 +68,30 @@ pub fn machine<'a>(
     rt: &'a HostRuntime,
     place: &str,
 ) -> Result<Machine<&'a HostRuntime>, AllocError> {
+    machine_with(rt, place, None)
+}
+
+/// The same with an archive in the row's `archive`, where the row has one.
+pub(crate) fn machine_of<'a>(
+    rt: &'a HostRuntime,
+    row: &Row,
+    place: &str,
+) -> Result<Machine<&'a HostRuntime>, RowFault> {
+    let archive = match row.find("archive") {
+        None => None,
+        Some(_) => Some(below(rt.alloc(), place, row.text("archive")?)?),
+    };
+    Ok(machine_with(rt, place, archive)?)
+}
+
+fn machine_with<'a>(
+    rt: &'a HostRuntime,
+    place: &str,
+    archive: Option<Text>,
+) -> Result<Machine<&'a HostRuntime>, AllocError> {
     let work = Text::from_text(rt.alloc(), place)?;
     let outdir = below(rt.alloc(), place, "results")?;
-    Ok(Machine::new(rt, work, None, outdir))
+    Ok(Machine::new(rt, work, archive, outdir))
 }
 
 /// A plan that copies nothing.
