@@ -10,12 +10,11 @@ ghost use Rattle.cwl_process.specs.Simple.{value_seen};
 
 use crate::entries::Entries;
 use crate::from_entry::{FromEntry, entries_at};
-use crate::shared::Shared;
 use crate::simple::{flag_at, read_any_text};
 use crate::templates::template_of;
 use crate::tool::{Acting, Asked, Variable};
 use document_table::{Kind, entries, main_field};
-use plain_data::Text;
+use plain_data::{Shared, Text};
 use serde_json::Value;
 use std::alloc::{AllocError, Global};
 

@@ -21,7 +21,6 @@ mod parts;
 mod process;
 mod read_links;
 mod read_workflow;
-mod shared;
 mod simple;
 mod template_faults;
 mod templates;
@@ -41,9 +40,9 @@ pub use laws::{
 pub use links::{Links, Merge, Pick, Source};
 pub use parameters::default_at;
 pub use parts::{StepParts, read_step_parts, read_workflow_inputs, read_workflow_outputs};
+pub use plain_data::Shared;
 pub use process::{Process, Run, RunName};
 pub use read_workflow::{is_workflow, own_id};
-pub use shared::Shared;
 pub use tool::{
     Acting, Asked, Binding, ExitCodes, InputType, OutputBinding, OutputType, SecondaryFile,
     Streams, Tool, ToolInput, ToolOutput, Variable,

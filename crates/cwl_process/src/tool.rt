@@ -1,10 +1,9 @@
 //! Tools: a command, its parameters, and what it asks of the one who runs it.
 use crate::entries::Entries;
-use crate::shared::Shared;
 use cwl_types::MemberType;
 use cwl_value::Value;
 use param_refs::Template;
-use plain_data::{Items, Text};
+use plain_data::{Items, Shared, Text};
 
 /// A command and the values around it (CWL v1.2, `CommandLineTool`).
 #[derive(Drop)]

@@ -1,2 +1,4 @@
 pub mod items
 pub mod keyed
+pub mod shared
+pub mod shared_items

@@ -6,6 +6,8 @@
 //! | `Text` | a `String` | its UTF-8 bytes, a `List ℕ` |
 //! | `Items<T>` | a `Vec<T>` | a `List T` |
 //! | `Keyed<T>` | names with values, in the order of the names' bytes, each name once | a `List (List ℕ × T)` |
+//! | `Shared<T>` | a counted `T` that several owners have | the `T` |
+//! | `SharedItems<T>` | `Items<T>` of one owner, or counted ones of several | a `List T` |
 //!
 //! A type may lead back to itself through `Items` and `Keyed`, as a tree of values does: give it
 //! `#[cycle(name)]`, and likewise its recursive functions, one for a value, one for `&Items` and one for
@@ -20,8 +22,12 @@
 
 mod items;
 mod keyed;
+mod shared;
+mod shared_items;
 mod text;
 
 pub use items::Items;
 pub use keyed::{Keyed, RepeatedName};
+pub use shared::Shared;
+pub use shared_items::SharedItems;
 pub use text::Text;

@@ -1,5 +1,4 @@
-//! Values that several owners have.
-ghost use Rattle.std.specs.Prelude.{◌≡◌, IfOk};
+ghost use Rattle.std.specs.Prelude.{◌≡◌, IfOk, MatchResult};
 
 use std::alloc::{AllocError, Global};
 use std::marker::Model;
@@ -19,6 +18,14 @@ impl<T> Model for Shared<T> {
     ghost view = { λ fields. fields.held.value };
 }
 
+impl<T> Shared<T> {
+    pub fn as_ref(&self) -> &T
+        ensures { result.now ≡ self.now }
+    {
+        self.held.as_ref()
+    }
+}
+
 impl<T: Drop> Shared<T> {
     /// The value, with one owner.
     pub fn new(alloc: Global, value: T) -> Result<Shared<T>, AllocError>
@@ -36,9 +43,14 @@ impl<T: Drop> Shared<T> {
         Ok(Shared { held })
     }
 
-    pub fn as_ref(&self) -> &T
-        ensures { result.now ≡ self.now }
+    /// The value, where this is its only owner; else this owner.
+    pub fn try_unwrap(self) -> Result<T, Shared<T>>
+        ensures { MatchResult result (λ value. value ≡ self) (λ shared. shared ≡ self) }
     {
-        self.held.as_ref()
+        let Shared { held } = self;
+        match Rc::try_unwrap(held) {
+            Ok(value) => Ok(value),
+            Err(held) => Err(Shared { held }),
+        }
     }
 }
