@@ -16,7 +16,7 @@ pub(crate) fn bare(alloc: Global, value: &Value) -> Result<Value, AllocError>
     match value {
         Value::FileVal(file) => Ok(Value::FileVal(bare_file(alloc, file)?)),
         Value::DirVal(dir) => Ok(Value::DirVal(bare_dir(alloc, dir)?)),
-        Value::List(items) => Ok(Value::List(bare_items(alloc, items)?)),
+        Value::List(items) => Ok(Value::of_items(bare_items(alloc, items.as_items())?)),
         Value::Fields(fields) => Ok(Value::Fields(bare_fields(alloc, fields)?)),
         other => other.clone_in(alloc),
     }

@@ -19,7 +19,7 @@ pub(crate) fn value_by_type(
     ensures err { IfErr result (Refuses (spec.value_by_type members.now values)) }
 {
     if has_array(members.as_slice()) {
-        return Ok(Value::List(values));
+        return Ok(Value::of_items(values));
     }
     sole_value(members, values)
 }

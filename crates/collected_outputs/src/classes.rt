@@ -15,7 +15,7 @@ fn has_class(value: &Value) -> bool
     match value {
         Value::FileVal(file) => file_has_class(file),
         Value::DirVal(dir) => dir_has_class(dir),
-        Value::List(items) => items_have_class(items),
+        Value::List(items) => items_have_class(items.as_items()),
         Value::Fields(fields) => is_classed(fields) || fields_have_class(fields),
         _ => false,
     }

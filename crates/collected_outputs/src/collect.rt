@@ -362,7 +362,7 @@ fn evaluated(
 {
     match output_eval {
         None => value_by_type(members, matched),
-        Some(template) => value_in(template, folder.speaks, &Value::List(matched)),
+        Some(template) => value_in(template, folder.speaks, &Value::of_items(matched)),
     }
 }
 

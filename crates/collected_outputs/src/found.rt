@@ -16,7 +16,7 @@ pub(crate) fn all_found(listing: &Keyed<Entry>, value: &Value) -> bool
     match value {
         Value::FileVal(file) => file_found(listing, file),
         Value::DirVal(dir) => dir_found(listing, dir),
-        Value::List(items) => items_found(listing, items),
+        Value::List(items) => items_found(listing, items.as_items()),
         Value::Fields(fields) => fields_found(listing, fields),
         _ => true,
     }

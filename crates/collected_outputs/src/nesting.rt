@@ -17,7 +17,7 @@ fn nests_within(value: &Value, levels: usize) -> bool
     match value {
         Value::FileVal(file) => file_within(file, levels),
         Value::DirVal(dir) => dir_within(dir, levels),
-        Value::List(items) => levels > 0 && items_within(items, levels - 1),
+        Value::List(items) => levels > 0 && items_within(items.as_items(), levels - 1),
         Value::Fields(fields) => levels > 0 && fields_within(fields, levels - 1),
         _ => true,
     }

@@ -23,7 +23,7 @@ pub(crate) fn placed(alloc: Global, listing: &Keyed<Entry>, value: &Value) -> Re
     match value {
         Value::FileVal(file) => Ok(Value::FileVal(placed_file(alloc, listing, file)?)),
         Value::DirVal(dir) => Ok(Value::DirVal(placed_dir(alloc, listing, dir)?)),
-        Value::List(items) => Ok(Value::List(placed_items(alloc, listing, items)?)),
+        Value::List(items) => Ok(Value::of_items(placed_items(alloc, listing, items.as_items())?)),
         Value::Fields(fields) => Ok(Value::Fields(placed_fields(alloc, listing, fields)?)),
         other => Ok(other.clone_in(alloc)?),
     }

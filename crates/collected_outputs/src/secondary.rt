@@ -11,7 +11,7 @@ use crate::fault::{CollectFault, Stop};
 use crate::listing::Entry;
 use crate::values::{basename_of, push_value};
 use cwl_process::SecondaryFile;
-use cwl_value::{FileVal, Place, Value, is_taken};
+use cwl_value::{FileVal, Place, Value, is_taken, items_by_value};
 use file_values::secondary_name;
 use plain_data::{Items, Keyed, Text};
 use std::alloc::{AllocError, Global};
@@ -27,7 +27,10 @@ pub(crate) fn with_secondary(
     ensures err { IfErr result (Refuses (spec.all_beside listing.now declared.now value)) }
 {
     match value {
-        Value::List(items) => Ok(Value::List(all_with_secondary(alloc, listing, declared, items)?)),
+        Value::List(items) => {
+            let items = items_by_value(alloc, items)?;
+            Ok(Value::of_items(all_with_secondary(alloc, listing, declared, items)?))
+        }
         other => one_with_secondary(alloc, listing, declared, other),
     }
 }

@@ -5,25 +5,26 @@ ghost use Rattle.cwl_value.specs.Reading.{secondary_read, listing_read};
 ghost use Rattle.cwl_value.specs.Secondary.{is_secondary, is_file, is_new, fit_beside as fits_beside, fit_inside as fits_inside};
 ghost use Rattle.cwl_value.specs.declared.refusal.ValueRefusal.TheVariants.{OutOfMemory};
 
+use crate::copy::items_by_value;
 use crate::distinct::{is_taken, names_differ};
 use crate::refusal::{FileField, ValueRefusal};
 use crate::value::Value;
-use plain_data::{Items, Text};
+use plain_data::{Items, SharedItems, Text};
 use std::alloc::{AllocError, Global};
 
 /// The secondary files of a File of this name.
 pub(crate) fn secondary_of(
     alloc: Global,
     name: &Option<Text>,
-    listed: Option<Items<Value>>,
+    listed: Option<SharedItems<Value>>,
 ) -> Result<Items<Value>, ValueRefusal>
     ensures ok { IfOk result (λ vs. secondary_read name.now listed ≡ Ok vs) }
     ensures err { IfErr result (λ e. e ≢ OutOfMemory → secondary_read name.now listed ≡ Err e) }
 {
     match listed {
         None => Ok(Items::new(alloc)),
-        Some(values) => if fit_beside(alloc, name, &values)? {
-            Ok(values)
+        Some(values) => if fit_beside(alloc, name, values.as_items())? {
+            Ok(items_by_value(alloc, values)?)
         } else {
             Err(ValueRefusal::BadFile(FileField::SecondaryFiles))
         },
@@ -33,15 +34,15 @@ pub(crate) fn secondary_of(
 /// The listing of a Directory.
 pub(crate) fn listing_of(
     alloc: Global,
-    listed: Option<Items<Value>>,
+    listed: Option<SharedItems<Value>>,
 ) -> Result<Option<Items<Value>>, ValueRefusal>
     ensures ok { IfOk result (λ vs. listing_read listed ≡ Ok vs) }
     ensures err { IfErr result (λ e. e ≢ OutOfMemory → listing_read listed ≡ Err e) }
 {
     match listed {
         None => Ok(None),
-        Some(values) => if fit_inside(alloc, &values)? {
-            Ok(Some(values))
+        Some(values) => if fit_inside(alloc, values.as_items())? {
+            Ok(Some(items_by_value(alloc, values)?))
         } else {
             Err(ValueRefusal::BadFile(FileField::Listing))
         },

@@ -1,9 +1,10 @@
-//! Copies in new memory, equal to what was copied.
+//! Copies, equal to what was copied: in new memory, but for lists that are shared.
 ghost use Rattle.std.specs.Prelude.{◌≡◌, IfOk};
+ghost use Rattle.cwl_value.specs.declared.value.Value as value;
 
 use crate::place::{JobPlace, Place, Segment};
 use crate::value::{DirVal, FileVal, Value};
-use plain_data::{Items, Keyed, Text};
+use plain_data::{Items, Keyed, SharedItems, Text};
 use std::alloc::{AllocError, Global};
 
 pub(crate) fn copy_if_any(alloc: Global, text: &Option<Text>) -> Result<Option<Text>, AllocError>
@@ -75,7 +76,7 @@ impl Place {
 }
 
 impl Value {
-    /// An equal value in new memory.
+    /// An equal value. A list that is shared gets a further owner, and the rest is in new memory.
     #[cycle(copy)]
     pub fn clone_in(&self, alloc: Global) -> Result<Value, AllocError>
         ensures { IfOk result (λ copy. copy ≡ self.now) }
@@ -87,7 +88,10 @@ impl Value {
             Value::Text(text) => Ok(Value::Text(text.copied(alloc)?)),
             Value::FileVal(file) => Ok(Value::FileVal(file.clone_in(alloc)?)),
             Value::DirVal(dir) => Ok(Value::DirVal(dir.clone_in(alloc)?)),
-            Value::List(items) => Ok(Value::List(copy_items(alloc, items)?)),
+            Value::List(items) => match items.another()? {
+                Some(other) => Ok(Value::List(other)),
+                None => Ok(Value::of_items(copy_items(alloc, items.as_items())?)),
+            },
             Value::Fields(fields) => Ok(Value::Fields(copy_fields(alloc, fields)?)),
         }
     }
@@ -157,4 +161,37 @@ pub fn copy_fields(alloc: Global, fields: &Keyed<Value>) -> Result<Keyed<Value>,
         copies.push((name, field.1.clone_in(alloc)?))?;
     }
     Ok(Keyed::from_sorted(copies))
+}
+
+impl Value {
+    /// The list of these items, without memory.
+    pub fn of_items(items: Items<Value>) -> Value
+        ensures { result ≡ value.List items }
+    {
+        Value::List(SharedItems::from_items(items))
+    }
+
+    /// The same value. Where it is a list, its copies share it.
+    pub fn shared(self, alloc: Global) -> Result<Value, AllocError>
+        ensures { IfOk result (λ shared. shared ≡ self) }
+    {
+        match self {
+            Value::List(items) => Ok(Value::List(items.shared(alloc)?)),
+            other => Ok(other),
+        }
+    }
+}
+
+/// The items of a list by value: copies where it has further owners, and else without memory.
+pub fn items_by_value(alloc: Global, list: SharedItems<Value>) -> Result<Items<Value>, AllocError>
+    ensures { IfOk result (λ items. items ≡ list) }
+{
+    match list.into_items() {
+        Ok(items) => Ok(items),
+        Err(kept) => {
+            let items = copy_items(alloc, kept.as_items());
+            drop(kept);
+            items
+        }
+    }
 }

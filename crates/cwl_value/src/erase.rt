@@ -20,7 +20,7 @@ pub fn erased(alloc: Global, value: &Value) -> Result<Value, AllocError>
         Value::Text(text) => Ok(Value::Text(text.copied(alloc)?)),
         Value::FileVal(file) => Ok(Value::FileVal(erased_file(alloc, file)?)),
         Value::DirVal(dir) => Ok(Value::DirVal(erased_dir(alloc, dir)?)),
-        Value::List(items) => Ok(Value::List(erased_items(alloc, items)?)),
+        Value::List(items) => Ok(Value::of_items(erased_items(alloc, items.as_items())?)),
         Value::Fields(fields) => Ok(Value::Fields(erased_fields(alloc, fields)?)),
     }
 }

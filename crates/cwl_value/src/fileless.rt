@@ -70,7 +70,7 @@ pub fn holds_files(value: &Value) -> bool
 {
     match value {
         Value::FileVal(_) | Value::DirVal(_) => true,
-        Value::List(items) => items_hold_files(items),
+        Value::List(items) => items_hold_files(items.as_items()),
         Value::Fields(fields) => fields_hold_files(fields),
         Value::Null | Value::Bool(_) | Value::Whole(_) | Value::Text(_) => false,
     }

@@ -14,7 +14,7 @@ use crate::members::{class_of, place_in, placed_in, summed_in};
 use crate::place::Place;
 use crate::refusal::{FileField, ValueRefusal};
 use crate::value::{DirVal, FileVal, Value};
-use plain_data::{Items, Keyed, Text};
+use plain_data::{Items, Keyed, SharedItems, Text};
 use serde_json::value::Map;
 use serde_json::{Number, Value as Json};
 use std::alloc::Global;
@@ -59,7 +59,7 @@ fn read(alloc: Global, json: &Json) -> Result<Value, ValueRefusal>
         Json::Bool(flag) => Ok(Value::Bool(*flag)),
         Json::Number(number) => whole(number),
         Json::String(text) => Ok(Value::Text(Text::from_text(alloc, text.as_str())?)),
-        Json::Array(items) => Ok(Value::List(read_items(alloc, items)?)),
+        Json::Array(items) => Ok(Value::of_items(read_items(alloc, items)?)),
         Json::Object(members) => read_object(alloc, members),
     }
 }
@@ -172,7 +172,7 @@ fn file_of(
     alloc: Global,
     placed: (Place, Option<Text>),
     summed: (Option<Text>, Option<u64>),
-    listed: Option<Items<Value>>,
+    listed: Option<SharedItems<Value>>,
 ) -> Result<FileVal, ValueRefusal>
     ensures ok { IfOk result (λ f. file_form placed summed listed ≡ Ok f) }
     ensures err { IfErr result (λ e. e ≢ OutOfMemory → file_form placed summed listed ≡ Err e) }
@@ -196,7 +196,7 @@ fn read_list(
     members: &Map<String, Json>,
     name: &str,
     field: FileField,
-) -> Result<Option<Items<Value>>, ValueRefusal>
+) -> Result<Option<SharedItems<Value>>, ValueRefusal>
     ensures ok { IfOk result
         (λ vs. list_read field (value_at name.now (members_read (members_view members.now.entries)))
         ≡ Ok vs) }
@@ -210,7 +210,7 @@ fn read_list(
     }
 }
 
-fn listed_in(value: Value, field: FileField) -> Result<Option<Items<Value>>, ValueRefusal>
+fn listed_in(value: Value, field: FileField) -> Result<Option<SharedItems<Value>>, ValueRefusal>
     ensures { result ≡ list_form field (out-Value value) }
 {
     match value {

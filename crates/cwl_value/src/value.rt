@@ -1,5 +1,5 @@
 use crate::place::Place;
-use plain_data::{Items, Keyed, Text};
+use plain_data::{Items, Keyed, SharedItems, Text};
 
 /// A value of CWL, as inputs and outputs are made of (CWL v1.2, "Data concepts").
 #[derive(Drop)]
@@ -11,7 +11,7 @@ pub enum Value {
     Text(Text),
     FileVal(FileVal),
     DirVal(DirVal),
-    List(Items<Value>),
+    List(SharedItems<Value>),
     Fields(Keyed<Value>),
 }
 

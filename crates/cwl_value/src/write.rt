@@ -29,7 +29,7 @@ pub fn to_json(alloc: Global, value: &Value) -> Result<Json, AllocError>
         Value::Text(text) => Json::try_from_str(alloc, text.as_str()),
         Value::FileVal(file) => file_to_json(alloc, file),
         Value::DirVal(dir) => dir_to_json(alloc, dir),
-        Value::List(items) => Ok(Json::Array(items_to_json(alloc, items)?)),
+        Value::List(items) => Ok(Json::Array(items_to_json(alloc, items.as_items())?)),
         Value::Fields(fields) => Ok(Json::Object(fields_to_json(alloc, fields)?)),
     }
 }

@@ -18,7 +18,7 @@ pub(crate) fn has_long(base: &Url, value: &Value) -> bool
     match value {
         Value::FileVal(file) => file_has_long(base, file),
         Value::DirVal(dir) => dir_has_long(base, dir),
-        Value::List(items) => items_have_long(base, items),
+        Value::List(items) => items_have_long(base, items.as_items()),
         Value::Fields(fields) => fields_have_long(base, fields),
         Value::Null | Value::Bool(_) | Value::Whole(_) | Value::Text(_) => false,
     }

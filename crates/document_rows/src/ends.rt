@@ -103,7 +103,7 @@ fn outputs(alloc: Global, items: &Vec<Json>) -> Result<Value, RowFault> {
     for item in items {
         values.push(output(alloc, item)?)?;
     }
-    Ok(Value::List(values))
+    Ok(Value::of_items(values))
 }
 
 /// A File of this name in the output folder of its job.

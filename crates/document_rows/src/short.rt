@@ -43,7 +43,7 @@ fn put_short(alloc: Global, out: &mut AnswerText, value: &Value) {
     match value {
         Value::FileVal(file) => put_file(alloc, out, file),
         Value::DirVal(dir) => put_dir(alloc, out, dir),
-        Value::List(items) => put_list(alloc, out, items),
+        Value::List(items) => put_list(alloc, out, items.as_items()),
         Value::Fields(fields) => put_fields(alloc, out, fields),
         Value::Null | Value::Bool(_) | Value::Whole(_) | Value::Text(_) => put_canonical(
             alloc, out, value,

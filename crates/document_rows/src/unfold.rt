@@ -77,7 +77,7 @@ fn list_of(alloc: Global, length: u64) -> Result<Value, RowFault> {
         items.push(Value::Whole(number))?;
         number = number.saturating_add(1);
     }
-    Ok(Value::List(items))
+    Ok(Value::of_items(items))
 }
 
 /// Learns the row's `ends`.

@@ -19,7 +19,7 @@ fn put_value(alloc: Global, out: &mut AnswerText, value: &Value) {
     match value {
         Value::FileVal(file) => put_file(alloc, out, file),
         Value::DirVal(dir) => put_dir(alloc, out, dir),
-        Value::List(items) => put_values(alloc, out, items),
+        Value::List(items) => put_values(alloc, out, items.as_items()),
         Value::Null | Value::Bool(_) | Value::Whole(_) | Value::Text(_) | Value::Fields(_) =>
             put_canonical(alloc, out, value),
     }

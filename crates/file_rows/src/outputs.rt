@@ -122,7 +122,7 @@ fn list_text(alloc: Global, names: Items<Text>) -> Result<String, RowFault> {
     for name in names.into_vec() {
         values.push(Value::Text(name))?;
     }
-    Ok(canonical_text(alloc, &Value::List(values))?.into_string())
+    Ok(canonical_text(alloc, &Value::of_items(values))?.into_string())
 }
 
 fn fault_text(alloc: Global, code: &str, output: &str) -> Result<String, RowFault> {

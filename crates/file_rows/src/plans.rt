@@ -96,7 +96,7 @@ fn push_paths(alloc: Global, text: &mut String, value: &Value) -> Result<(), Row
                 Some(entries) => push_item_paths(alloc, text, entries),
             }
         }
-        Value::List(items) => push_item_paths(alloc, text, items),
+        Value::List(items) => push_item_paths(alloc, text, items.as_items()),
         Value::Fields(fields) => push_field_paths(alloc, text, fields),
         _ => Ok(()),
     }

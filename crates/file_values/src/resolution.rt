@@ -45,7 +45,7 @@ fn resolved(alloc: Global, value: &Value, base: &Url) -> Result<Value, FileError
         Value::Text(text) => Ok(Value::Text(text.copied(alloc)?)),
         Value::FileVal(file) => Ok(Value::FileVal(resolved_file(alloc, file, base)?)),
         Value::DirVal(dir) => Ok(Value::DirVal(resolved_dir(alloc, dir, base)?)),
-        Value::List(items) => Ok(Value::List(resolved_items(alloc, items, base)?)),
+        Value::List(items) => Ok(Value::of_items(resolved_items(alloc, items.as_items(), base)?)),
         Value::Fields(fields) => Ok(Value::Fields(resolved_fields(alloc, fields, base)?)),
     }
 }

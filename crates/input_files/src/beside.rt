@@ -8,7 +8,7 @@ use crate::files::items_of;
 use crate::listing::{measured_dir, measured_file, values_below};
 use crate::names::{beside, is_name, last_of};
 use cwl_process::SecondaryFile;
-use cwl_value::{FileVal, Place, Value, is_taken};
+use cwl_value::{FileVal, Place, Value, is_taken, items_by_value};
 use file_values::secondary_name;
 use plain_data::{Items, Keyed, Text};
 use staging::Measure;
@@ -134,7 +134,10 @@ pub(crate) fn all_beside(
     ensures { IfOk result (λ v. v ≡ spec.all_beside measures.now declared.now value) }
 {
     match value {
-        Value::List(items) => Ok(Value::List(items_beside(alloc, measures, declared, items)?)),
+        Value::List(items) => {
+            let items = items_by_value(alloc, items)?;
+            Ok(Value::of_items(items_beside(alloc, measures, declared, items)?))
+        }
         other => one_beside(alloc, measures, declared, other),
     }
 }

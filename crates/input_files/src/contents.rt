@@ -12,7 +12,7 @@ use crate::files::items_of;
 use crate::names::each_once;
 use crate::paths::push_own;
 use cwl_process::ToolInput;
-use cwl_value::{FileVal, Place, Value};
+use cwl_value::{FileVal, Place, Value, items_by_value};
 use plain_data::{Items, Keyed, Text};
 use std::alloc::{AllocError, Global};
 use std::str;
@@ -237,7 +237,10 @@ fn value_loaded(
         return Ok(value);
     }
     match value {
-        Value::List(items) => Ok(Value::List(items_loaded(alloc, heads, items)?)),
+        Value::List(items) => {
+            let items = items_by_value(alloc, items)?;
+            Ok(Value::of_items(items_loaded(alloc, heads, items)?))
+        }
         other => one_loaded(alloc, heads, other),
     }
 }

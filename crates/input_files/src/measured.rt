@@ -29,7 +29,11 @@ pub fn as_measured(
         Value::Text(text) => Ok(Value::Text(text.copied(alloc)?)),
         Value::FileVal(file) => Ok(Value::FileVal(measured_file(alloc, measures, file)?)),
         Value::DirVal(dir) => Ok(Value::DirVal(measured_dir(alloc, measures, dir)?)),
-        Value::List(items) => Ok(Value::List(measured_items(alloc, measures, items)?)),
+        Value::List(items) => Ok(Value::of_items(measured_items(
+            alloc,
+            measures,
+            items.as_items(),
+        )?)),
         Value::Fields(fields) => Ok(Value::Fields(measured_fields(alloc, measures, fields)?)),
     }
 }

@@ -85,7 +85,7 @@ pub fn push_value(alloc: Global, value: &Value, paths: &mut Items<Text>) -> Resu
     match value {
         Value::FileVal(file) => push_file(alloc, file, paths),
         Value::DirVal(dir) => push_dir(alloc, dir, paths),
-        Value::List(items) => push_items(alloc, items, paths),
+        Value::List(items) => push_items(alloc, items.as_items(), paths),
         Value::Fields(fields) => push_fields(alloc, fields, paths),
         _ => Ok(()),
     }

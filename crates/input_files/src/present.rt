@@ -14,7 +14,7 @@ pub(crate) fn is_present(value: &Value) -> bool
     match value {
         Value::FileVal(file) => is_file_present(file),
         Value::DirVal(dir) => is_dir_present(dir),
-        Value::List(items) => are_present(items),
+        Value::List(items) => are_present(items.as_items()),
         Value::Fields(fields) => are_fields_present(fields),
         _ => true,
     }

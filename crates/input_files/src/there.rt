@@ -17,7 +17,7 @@ pub(crate) fn is_there(measures: &Keyed<Measure>, value: &Value) -> bool
     match value {
         Value::FileVal(file) => is_file_there(measures, file),
         Value::DirVal(dir) => is_dir_there(measures, dir),
-        Value::List(items) => are_there(measures, items),
+        Value::List(items) => are_there(measures, items.as_items()),
         Value::Fields(fields) => are_fields_there(measures, fields),
         _ => true,
     }

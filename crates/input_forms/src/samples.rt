@@ -84,7 +84,7 @@ fn list_of(alloc: Global, item: Value) -> Result<Value, AllocError>
 {
     let mut items = Items::new(alloc);
     items.push(item)?;
-    Ok(Value::List(items))
+    Ok(Value::of_items(items))
 }
 
 fn first_symbol(alloc: Global, symbols: &[Text]) -> Result<Value, AllocError>

@@ -111,7 +111,7 @@ pub(crate) fn value_made(alloc: Global, job: &JobPlace, value: &Value) -> Result
         Value::Text(text) => Ok(Value::Text(text.copied(alloc)?)),
         Value::FileVal(file) => Ok(Value::FileVal(file_made(alloc, job, file)?)),
         Value::DirVal(dir) => Ok(Value::DirVal(dir_made(alloc, job, dir)?)),
-        Value::List(items) => Ok(Value::List(items_made(alloc, job, items)?)),
+        Value::List(items) => Ok(Value::of_items(items_made(alloc, job, items.as_items())?)),
         Value::Fields(fields) => Ok(Value::Fields(fields_made(alloc, job, fields)?)),
     }
 }

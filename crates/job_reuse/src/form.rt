@@ -27,7 +27,7 @@ fn value_in_form(value: &Value)
         Value::Text(_text) => {}
         Value::FileVal(file) => file_in_form(file),
         Value::DirVal(dir) => dir_in_form(dir),
-        Value::List(items) => items_in_form(items),
+        Value::List(items) => items_in_form(items.as_items()),
         Value::Fields(fields) => in_form(fields),
     }
 }

@@ -40,7 +40,7 @@ fn same_value(one: &Value, other: &Value) -> bool
             _ => false,
         },
         Value::List(items) => match other {
-            Value::List(those) => same_items(items, those),
+            Value::List(those) => same_items(items.as_items(), those.as_items()),
             _ => false,
         },
         Value::Fields(fields) => match other {

@@ -17,7 +17,7 @@ fn value_stands(index: &Keyed<Found>, value: &Value) -> bool
     match value {
         Value::FileVal(file) => file_stands(index, file),
         Value::DirVal(dir) => dir_stands(index, dir),
-        Value::List(items) => items_stand(index, items),
+        Value::List(items) => items_stand(index, items.as_items()),
         Value::Fields(fields) => fields_stand(index, fields),
         _ => true,
     }

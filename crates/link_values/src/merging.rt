@@ -5,7 +5,7 @@ ghost use Rattle.cwl_process.specs.declared.links.Merge.TheVariants.{Flattened};
 ghost use Rattle.link_values.specs.Merged.{merged, items_or_one};
 
 use cwl_process::Merge;
-use cwl_value::Value;
+use cwl_value::{Value, items_by_value};
 use plain_data::Items;
 use std::alloc::{AllocError, Global};
 
@@ -18,7 +18,7 @@ pub fn merge(alloc: Global, method: Option<Merge>, values: Vec<Value>) -> Result
     ensures in_place { method ≢ Some Flattened → IsOk result }
 {
     match method {
-        Some(Merge::Nested) => Ok(Value::List(Items::from_vec(values))),
+        Some(Merge::Nested) => Ok(Value::of_items(Items::from_vec(values))),
         Some(Merge::Flattened) => flattened(alloc, values),
         None => Ok(unmerged(values)),
     }
@@ -29,7 +29,7 @@ fn unmerged(values: Vec<Value>) -> Value
 {
     let mut values = values;
     if values.len() > 1 {
-        return Value::List(Items::from_vec(values));
+        return Value::of_items(Items::from_vec(values));
     }
     match values.pop() {
         Some(value) => value,
@@ -42,17 +42,17 @@ fn flattened(alloc: Global, values: Vec<Value>) -> Result<Value, AllocError>
 {
     let mut items = Vec::new(alloc);
     for value in values {
-        push_items(&mut items, value)?;
+        push_items(alloc, &mut items, value)?;
     }
-    Ok(Value::List(Items::from_vec(items)))
+    Ok(Value::of_items(Items::from_vec(items)))
 }
 
 // Adds the items of a list, or a value that is no list.
-fn push_items(items: &mut Vec<Value>, value: Value) -> Result<(), AllocError>
+fn push_items(alloc: Global, items: &mut Vec<Value>, value: Value) -> Result<(), AllocError>
     ensures { OnOk result (items.new.items ≡ items.old.items ++ items_or_one value) }
 {
     match value {
-        Value::List(list) => push_all(items, list.into_vec()),
+        Value::List(list) => push_all(items, items_by_value(alloc, list)?.into_vec()),
         other => Ok(items.push(other)?),
     }
 }

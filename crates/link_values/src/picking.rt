@@ -8,7 +8,7 @@ ghost use Rattle.link_values.specs.Refused.{IsError};
 
 use crate::fault::{LinkError, LinkFault};
 use cwl_process::Pick;
-use cwl_value::Value;
+use cwl_value::{Value, items_by_value};
 use plain_data::Items;
 use std::alloc::{AllocError, Global};
 
@@ -22,7 +22,7 @@ pub fn pick(alloc: Global, method: Option<Pick>, value: Value) -> Result<Value, 
     };
     let values = not_null(values_of(alloc, value)?);
     match method {
-        Pick::AllNonNull => Ok(Value::List(Items::from_vec(values))),
+        Pick::AllNonNull => Ok(Value::of_items(Items::from_vec(values))),
         Pick::FirstNonNull => first(values),
         Pick::TheOnlyNonNull => only(values),
     }
@@ -41,7 +41,7 @@ fn values_of(alloc: Global, value: Value) -> Result<Vec<Value>, AllocError>
     ensures { IfOk result (λ values. values.items ≡ items_or_one value) }
 {
     match value {
-        Value::List(items) => Ok(items.into_vec()),
+        Value::List(items) => Ok(items_by_value(alloc, items)?.into_vec()),
         other => Ok(vec![in alloc; other]?),
     }
 }

@@ -130,7 +130,9 @@ fn by_key<'v>(
             None => Err(RefError::Refused(RefFault::NoField)),
             Some(inner) => Ok(Reached::Made(inner)),
         },
-        Value::List(items) if is_last && key == "length" => { Ok(Reached::Made(length_of(items)?)) }
+        Value::List(items) if is_last && key == "length" => {
+            Ok(Reached::Made(length_of(items.as_items())?))
+        }
         _ => Err(RefError::Refused(RefFault::WrongKind)),
     }
 }
@@ -152,7 +154,7 @@ fn by_index<'v>(alloc: Global, value: &'v Value, digits: &str) -> Result<Reached
     ensures err { IfErr result (IsError (by_index (number_of digits.now) (out-Value value.now))) }
 {
     match value {
-        Value::List(items) => match item(items, digits) {
+        Value::List(items) => match item(items.as_items(), digits) {
             None => Err(RefError::Refused(RefFault::IndexOut)),
             Some(item) => Ok(Reached::Inside(item)),
         },

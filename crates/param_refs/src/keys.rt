@@ -52,7 +52,7 @@ pub(crate) fn dir_value(
         "class" => Ok(Some(Value::Text(Text::from_text(alloc, "Directory")?))),
         "listing" => match &dir.listing {
             None => Ok(None),
-            Some(listing) => Ok(Some(Value::List(in_order(alloc, listing)?))),
+            Some(listing) => Ok(Some(Value::of_items(in_order(alloc, listing)?))),
         },
         "location" => location_value(alloc, path_of(&dir.place, with_places)),
         "path" => path_value(alloc, path_of(&dir.place, with_places)),
@@ -145,7 +145,7 @@ fn secondary_value(alloc: Global, secondary: &Items<Value>) -> Result<Option<Val
     if secondary.is_empty() {
         return Ok(None);
     }
-    Ok(Some(Value::List(copy_items(alloc, secondary)?)))
+    Ok(Some(Value::of_items(copy_items(alloc, secondary)?)))
 }
 
 fn size_value(size: Option<u64>) -> Option<Value>

@@ -15,7 +15,7 @@ pub(crate) fn command_json(alloc: Global, launch: &Launch) -> Result<Text, Alloc
     ensures { IfOk result (λ text. text ≡ spec.command_json launch.now) }
 {
     let words = words_of(alloc, launch.words.as_slice())?;
-    let text = canonical_text(alloc, &Value::List(Items::from_vec(words)))?;
+    let text = canonical_text(alloc, &Value::of_items(Items::from_vec(words)))?;
     visible_text(alloc, &text)
 }
 

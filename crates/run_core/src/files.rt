@@ -13,7 +13,7 @@ pub(crate) fn has_file(value: &Value) -> bool
 {
     match value {
         Value::FileVal(_) | Value::DirVal(_) => true,
-        Value::List(items) => items_have_file(items),
+        Value::List(items) => items_have_file(items.as_items()),
         Value::Fields(fields) => fields_have_file(fields),
         _ => false,
     }

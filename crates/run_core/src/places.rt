@@ -37,7 +37,7 @@ pub(crate) fn moved(alloc: Global, way: Way<'_, '_>, value: &Value) -> Result<Va
     match value {
         Value::FileVal(file) => Ok(Value::FileVal(moved_file(alloc, way, file)?)),
         Value::DirVal(dir) => Ok(Value::DirVal(moved_dir(alloc, way, dir)?)),
-        Value::List(items) => Ok(Value::List(moved_items(alloc, way, items)?)),
+        Value::List(items) => Ok(Value::of_items(moved_items(alloc, way, items.as_items())?)),
         Value::Fields(fields) => Ok(Value::Fields(moved_fields(alloc, way, fields)?)),
         _ => value.clone_in(alloc),
     }

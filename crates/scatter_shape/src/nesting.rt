@@ -27,7 +27,9 @@ pub fn gather(alloc: Global, shape: &Shape, values: Vec<Value>) -> Result<Value,
     ensures one_list { shape.now.method ≢ NestedCrossproduct → IsOk result }
 {
     match shape.method {
-        Method::Dotproduct | Method::FlatCrossproduct => Ok(Value::List(Items::from_vec(values))),
+        Method::Dotproduct | Method::FlatCrossproduct => {
+            Ok(Value::of_items(Items::from_vec(values)))
+        }
         Method::NestedCrossproduct => {
             nested(alloc, shape.lengths.as_slice(), &mut values.into_iter())
         }
@@ -54,7 +56,7 @@ fn nested(
             for _ in 0..*length {
                 items.push(nested(alloc, rest, values)?)?;
             }
-            Ok(Value::List(items))
+            Ok(Value::of_items(items))
         }
     }
 }

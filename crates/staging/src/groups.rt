@@ -33,7 +33,7 @@ fn push_groups(
     match value {
         Value::FileVal(file) => push_group(groups, file_group(alloc, file)?),
         Value::DirVal(dir) => push_group(groups, dir_group(alloc, dir)?),
-        Value::List(items) => push_item_groups(alloc, items, groups),
+        Value::List(items) => push_item_groups(alloc, items.as_items(), groups),
         Value::Fields(fields) => push_field_groups(alloc, fields, groups),
         _ => Ok(()),
     }

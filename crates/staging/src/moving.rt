@@ -47,7 +47,7 @@ fn moved(alloc: Global, value: &Value, way: Way<'_>) -> Result<Value, AllocError
     match value {
         Value::FileVal(file) => Ok(Value::FileVal(moved_file(alloc, file, way)?)),
         Value::DirVal(dir) => Ok(Value::DirVal(moved_dir(alloc, dir, way)?)),
-        Value::List(items) => Ok(Value::List(moved_items(alloc, items, way)?)),
+        Value::List(items) => Ok(Value::of_items(moved_items(alloc, items.as_items(), way)?)),
         Value::Fields(fields) => Ok(Value::Fields(moved_fields(alloc, fields, way)?)),
         _ => value.clone_in(alloc),
     }

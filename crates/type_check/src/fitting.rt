@@ -32,7 +32,7 @@ pub fn fits_member(value: &Value, member: &MemberType) -> bool
     match member {
         MemberType::Plain(kind) => is_plain(value, *kind),
         MemberType::Array(array) => match value {
-            Value::List(items) => all_fit(items, &array.items),
+            Value::List(items) => all_fit(items.as_items(), &array.items),
             _ => false,
         },
         MemberType::Enum(symbols) => match value {

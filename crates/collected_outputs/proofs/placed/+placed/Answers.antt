@@ -1,15 +1,23 @@
-use Rattle.std.proofs.Common.{List, [], ◌∷◌, ◌++◌, Ok, map, take, sym, ap, ◌∙◌}
+use Rattle.std.proofs.Common.{◌≡◌, List, [], ◌∷◌, ◌++◌, Ok, map, take, sym, ap, ◌∙◌, rules}
 use Rattle.std.proofs.lemmas.List.{take_all}
 use Rattle.std.proofs.lemmas.Result.{err_from_is_err_and}
 use Rattle.plain_data.proofs.ByName.{by_name_along, by_name_taken}
-use Rattle.cwl_value.specs.declared.value.Value.{Value}
+use Rattle.cwl_value.specs.declared.value.Value.{Value, the_lemmas}
 use Rattle.collected_outputs.specs.Gives.{and_map, all_given}
 use Rattle.collected_outputs.specs.Matched.{Name}
 use Rattle.collected_outputs.specs.Object.{placed}
 use Rattle.collected_outputs.proofs.Every.{same_names}
 use Rattle.collected_outputs.proofs.Giving.{slice_more, slice_stop, refused_map}
 use Rattle.collected_outputs.proofs.Placing.{field_placed, all_fields}
+use Rattle.cwl_value.specs.declared.value.Value as value
 use Rattle.collected_outputs.proofs.placed.+placed.Goals as goal
+
+pub placed-returns-in_ok-placed_items-in-List-clause-ok : goal.placed-returns-in_ok-placed_items-in-List-clause-ok
+placed-returns-in_ok-placed_items-in-List-clause-ok t c =
+    let list : placed c.args.listing.now (value.List c.in-List.items) ≡ and_map value.List (all_given (map (placed c.args.listing.now) c.in-List.items)) = search (rules, the_lemmas) in
+    ap (placed c.args.listing.now) c.in-List.is ∙ list
+    ∙ ap (λ vs. and_map value.List (all_given (map (placed c.args.listing.now) vs))) (sym c.as_items.ensures)
+    ∙ ap (and_map value.List) c.in_ok-placed_items-in-List.ensures.ok ∙ ap Ok (sym c.of_items.ensures)
 
 pub placed_items-returns-in_err-placed-clause-err : goal.placed_items-returns-in_err-placed-clause-err
 placed_items-returns-in_err-placed-clause-err t c =

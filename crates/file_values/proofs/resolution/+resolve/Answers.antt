@@ -1,9 +1,19 @@
-use Rattle.std.proofs.Common.{[], ◌∷◌, ◌++◌, Ok, sym, ap, ◌∙◌}
+use Rattle.std.proofs.Common.{◌≡◌, [], ◌∷◌, ◌++◌, Ok, map, sym, ap, ◌∙◌, rules}
 use Rattle.std.proofs.lemmas.Result.{err_from_is_err_and}
-use Rattle.file_values.specs.Resolved.{resolved, has_long}
+use Rattle.file_values.specs.Location.{and_map}
+use Rattle.file_values.specs.Resolved.{all_found, resolved, has_long}
 use Rattle.file_values.proofs.Finding.{items_more, items_stop, fields_more_at, fields_stop_at, fields_by_name}
 use Rattle.file_values.proofs.Levels.{file_at_place, file_at_name, file_at_items, file_at_beside, dir_at_place, dir_at_name}
+use Rattle.cwl_value.specs.declared.value.Value.{the_lemmas}
+use Rattle.cwl_value.specs.declared.value.Value as value
 use Rattle.file_values.proofs.resolution.+resolve.Goals as goal
+
+pub resolved-returns-in_ok-resolved_items-in-List-clause-ok : goal.resolved-returns-in_ok-resolved_items-in-List-clause-ok
+resolved-returns-in_ok-resolved_items-in-List-clause-ok t c =
+    let list : resolved c.args.base.now (value.List c.in-List.items) ≡ and_map value.List (all_found (map (resolved c.args.base.now) c.in-List.items)) = search (rules, the_lemmas) in
+    ap (resolved c.args.base.now) c.in-List.is ∙ list
+    ∙ ap (λ vs. and_map value.List (all_found (map (resolved c.args.base.now) vs))) (sym c.as_items.ensures)
+    ∙ ap (and_map value.List) c.in_ok-resolved_items-in-List.ensures.ok ∙ ap Ok (sym c.of_items.ensures)
 
 pub resolved_items-loop-item-preserved : goal.resolved_items-loop-item-preserved
 resolved_items-loop-item-preserved t c =

@@ -43,7 +43,7 @@ pub value_in_form-returns-in-DirVal : goal.value_in_form-returns-in-DirVal
 value_in_form-returns-in-DirVal t c = subst IsInForm (sym c.in-DirVal.is) (IsInForm.dir c.in-DirVal.dir c.dir_in_form.ensures)
 
 pub value_in_form-returns-in-List : goal.value_in_form-returns-in-List
-value_in_form-returns-in-List t c = subst IsInForm (sym c.in-List.is) (IsInForm.list c.in-List.items c.items_in_form.ensures)
+value_in_form-returns-in-List t c = subst IsInForm (sym c.in-List.is) (IsInForm.list c.in-List.items (subst AreAllInForm c.as_items.ensures c.items_in_form.ensures))
 
 pub value_in_form-returns-in-Fields : goal.value_in_form-returns-in-Fields
 value_in_form-returns-in-Fields t c = subst IsInForm (sym c.in-Fields.is) (IsInForm.fields c.in-Fields.fields c.in_form.ensures.order c.in_form.ensures.each)
