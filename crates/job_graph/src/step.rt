@@ -128,7 +128,7 @@ fn put_entry(
             drop(mem::replace(&mut entered.values, None));
             Ok(())
         }
-        Partly::Gives(value) => put_value(entered, name, value),
+        Partly::Gives(value) => put_value(alloc, entered, name, value),
         Partly::Fails(cause) => {
             drop(mem::replace(&mut entered.values, None));
             push_fault(alloc, &mut entered.faults, place, cause)
@@ -136,7 +136,13 @@ fn put_entry(
     }
 }
 
-fn put_value(entered: &mut Entered<'_>, name: Text, value: Value) -> Result<(), AllocError>
+/// Puts a value that is known. Where it is a list, the tuples of a scatter share it.
+fn put_value(
+    alloc: Global,
+    entered: &mut Entered<'_>,
+    name: Text,
+    value: Value,
+) -> Result<(), AllocError>
     ensures faults { OnOk result (entered.new.faults ≡ entered.old.faults) }
     ensures values { OnOk result (entered.new.values
         ≡ with_entry entered.old.values (name, Gives value)) }
@@ -144,7 +150,7 @@ fn put_value(entered: &mut Entered<'_>, name: Text, value: Value) -> Result<(), 
     match &mut entered.values {
         None => Ok(()),
         Some(values) => {
-            drop(values.insert(name, value)?);
+            drop(values.insert(name, value.shared(alloc)?)?);
             Ok(())
         }
     }
