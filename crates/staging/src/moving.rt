@@ -23,7 +23,7 @@ pub(crate) enum Way<'a> {
     Inside(&'a str),
 }
 
-/// The values in the folders of their groups.
+/// The values in the folders of their groups. A copy of them shares their lists.
 #[cycle(moving)]
 pub(crate) fn moved_fields(
     alloc: Global,
@@ -35,7 +35,8 @@ pub(crate) fn moved_fields(
     let mut found = Vec::with_capacity(alloc, fields.len())?;
     for field in fields.as_slice() {
         let name = field.0.copied(alloc)?;
-        found.push((name, moved(alloc, &field.1, way)?))?;
+        let value = moved(alloc, &field.1, way)?;
+        found.push((name, value.shared(alloc)?))?;
     }
     Ok(Keyed::from_sorted(found))
 }
