@@ -29,7 +29,7 @@ pub fn answer(alloc: Global, row: &Row) -> Result<String, RowFault> {
 
 fn of_values(alloc: Global, row: &Row) -> Result<String, RowFault> {
     match row.call() {
-        "read_value" | "clone_in" | "from_json" | "erased" => values::answer(alloc, row),
+        "read_value" | "clone_in" | "from_json" | "erased" | "shared" => values::answer(alloc, row),
         "place_text" | "clone_place" => places::answer(alloc, row),
         "template_value" => references::answer(alloc, row),
         "merge" | "pick" => links::answer(alloc, row),

@@ -4,8 +4,8 @@ use row_io::{Row, RowFault};
 use serde_json::Value as Json;
 use std::alloc::{AllocError, Global};
 
-/// `read_value` writes the value of a text, and the others the copy of such a value, what its JSON reads as, and the
-/// value without places.
+/// `read_value` writes the value of a text, and the others the copy of such a value, what its JSON reads as, the value
+/// without places, and how many owners its list has once it is shared.
 pub(crate) fn answer(alloc: Global, row: &Row) -> Result<String, RowFault> {
     let text = row.text("text")?;
     let read = read_value(alloc, text.as_bytes());
@@ -23,6 +23,7 @@ fn written_after(alloc: Global, call: &str, value: &Value) -> Result<String, Row
         "clone_in" => copied(alloc, value),
         "from_json" => read_again(alloc, value),
         "erased" => without_places(alloc, value),
+        "shared" => shared(alloc, value),
         _ => Err(RowFault::UnknownCall),
     }
 }
@@ -45,6 +46,33 @@ pub(crate) fn written_last(alloc: Global, value: Value) -> Result<String, RowFau
 
 fn copied(alloc: Global, value: &Value) -> Result<String, RowFault> {
     written_last(alloc, value.clone_in(alloc)?)
+}
+
+// The owners of a list that is shared and copied, and then those of the copy alone.
+fn shared(alloc: Global, value: &Value) -> Result<String, RowFault> {
+    let whole = value.clone_in(alloc)?.shared(alloc)?;
+    let copy = whole.clone_in(alloc);
+    let first = owners(whole);
+    pair(alloc, first, owners(copy?))
+}
+
+fn owners(value: Value) -> &'static str {
+    match value {
+        Value::List(items) => match items.into_items() {
+            Ok(items) => {
+                drop(items);
+                "one"
+            }
+            Err(kept) => {
+                drop(kept);
+                "several"
+            }
+        },
+        other => {
+            drop(other);
+            "none"
+        }
+    }
 }
 
 fn without_places(alloc: Global, value: &Value) -> Result<String, RowFault> {
