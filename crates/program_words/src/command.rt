@@ -7,10 +7,12 @@ ghost use Rattle.std.specs.Prelude.{string_bytes};
 use crate::flags::{CHECK_END, DEMO_END, is_wanted, with_flags};
 use crate::planning::{PlanWords, plan_command, plan_words};
 use crate::record_words::{RecordWords, record_command, record_words};
-use crate::run_words::{RunWords, run_command, run_words};
+use crate::run_words::{RunWords, run_command, run_words, with_placed};
 use clap::error::ErrorKind;
-use clap::{Arg, ArgAction, ArgMatches, Command, Error};
+use clap::{ArgMatches, Command, Error};
 use std::alloc::Global;
+
+const CERTIFICATE_HELP: &str = "The certificate's file, or `-` for standard input";
 
 /// What the words ask for.
 #[derive(Drop)]
@@ -33,14 +35,10 @@ fn check_command<'a>(alloc: Global) -> Result<Command<'a>, Error>
     ensures local { IfOk result IsLocal }
     ensures err { IfErr result (λ e. kind_of e ≡ ErrorKind.OutOfMemory) }
 {
-    let file = Arg::new(alloc, "CERTIFICATE")
-        .required(true)
-        .action(ArgAction::Set)
-        .help("The certificate's file, or `-` for standard input");
     let check = Command::new(alloc, "check")
         .about("Says whether a certificate shows its plan to be a cheapest one")
-        .after_help(CHECK_END)
-        .arg(file)?;
+        .after_help(CHECK_END);
+    let check = with_placed(alloc, check, "CERTIFICATE", true, CERTIFICATE_HELP)?;
     with_flags(alloc, check)
 }
 

@@ -1,6 +1,6 @@
 //! The options without a value, and those that each command takes.
 ghost use Rattle.std.specs.Prelude.{◌≡◌, IfOk, IfErr, false};
-ghost use Rattle.clap.specs.Words.{app_of, found_of, kind_of, rows_of, rule_of};
+ghost use Rattle.clap.specs.Words.{app_of, found_of, kind_of, rows_of, rule_of, with_rule};
 ghost use Rattle.program_words.specs.Flags.{IsLocal, flag_rule, is_given, is_wanted, with_flags};
 
 use clap::error::ErrorKind;
@@ -28,8 +28,8 @@ pub const RECORD_END: &str =
 pub const DEMO_END: &str =
     "Example: deparohi demo\n\nStatus: 0 success, 3 out of memory, or standard output can't be written";
 
-/// An option without a value, as `--explain`.
-pub fn flag<'a>(alloc: Global, id: &'a str, help: &'a str) -> Arg<'a>
+// An option without a value, as `--explain`.
+fn flag<'a>(alloc: Global, id: &'a str, help: &'a str) -> Arg<'a>
     ensures rule { rule_of result ≡ flag_rule id.now }
     ensures local { result.global ≡ false }
 {
@@ -39,6 +39,24 @@ pub fn flag<'a>(alloc: Global, id: &'a str, help: &'a str) -> Arg<'a>
         .help(help)
 }
 
+/// A command with an option without a value.
+pub fn with_flag<'a>(
+    alloc: Global,
+    command: Command<'a>,
+    id: &'a str,
+    help: &'a str,
+) -> Result<Command<'a>, Error>
+    requires { IsLocal command }
+    ensures ok { IfOk result (λ whole. app_of whole
+        ≡ with_rule (app_of command.entry) (flag_rule id.now)) }
+    ensures local { IfOk result IsLocal }
+    ensures err { IfErr result (λ e. kind_of e ≡ ErrorKind.OutOfMemory) }
+{
+    let arg = flag(alloc, id, help);
+    let command = command.arg(arg)?;
+    Ok(command)
+}
+
 /// A command with `--explain` and `--quiet`.
 pub fn with_flags<'a>(alloc: Global, command: Command<'a>) -> Result<Command<'a>, Error>
     requires { IsLocal command }
@@ -46,11 +64,8 @@ pub fn with_flags<'a>(alloc: Global, command: Command<'a>) -> Result<Command<'a>
     ensures local { IfOk result IsLocal }
     ensures err { IfErr result (λ e. kind_of e ≡ ErrorKind.OutOfMemory) }
 {
-    let explain = flag(alloc, "explain", EXPLAIN_HELP);
-    let command = command.arg(explain)?;
-    let quiet = flag(alloc, "quiet", QUIET_HELP);
-    let command = command.arg(quiet)?;
-    Ok(command)
+    let command = with_flag(alloc, command, "explain", EXPLAIN_HELP)?;
+    with_flag(alloc, command, "quiet", QUIET_HELP)
 }
 
 /// Whether an option is there that `--quiet` does not take back.

@@ -4,7 +4,7 @@ ghost use Rattle.clap.specs.Words.{app_of, found_of, kind_of, rows_of};
 ghost use Rattle.program_words.specs.Flags.{IsLocal};
 ghost use Rattle.program_words.specs.PlanWords.{plan_command, plan_wish, wish_of_plan};
 
-use crate::flags::{PLAN_END, flag, is_given, with_flags};
+use crate::flags::{PLAN_END, is_given, with_flag, with_flags};
 use crate::run_words::{RunWords, run_words, with_costs, with_inputs};
 use clap::error::ErrorKind;
 use clap::{ArgMatches, Command, Error};
@@ -31,8 +31,8 @@ pub fn plan_command<'a>(alloc: Global) -> Result<Command<'a>, Error>
             "Says what a run would load, compute and not need, with a certificate that nothing costs less",
         )
         .after_help(PLAN_END);
-    let dot = flag(alloc, "dot", DOT_HELP);
-    let command = with_costs(alloc, command)?.arg(dot)?;
+    let command = with_costs(alloc, command)?;
+    let command = with_flag(alloc, command, "dot", DOT_HELP)?;
     let command = with_flags(alloc, command)?;
     with_inputs(alloc, command)
 }

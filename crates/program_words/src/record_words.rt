@@ -4,12 +4,14 @@ ghost use Rattle.program_words.specs.RecordWords.{record_command, record_wish, w
 ghost use Rattle.program_words.specs.Flags.{IsLocal};
 
 use crate::flags::{RECORD_END, is_wanted, with_flags};
-use crate::run_words::{named, placed};
+use crate::run_words::{with_named, with_placed};
 use clap::error::ErrorKind;
 use clap::{ArgMatches, Command, Error};
 use std::alloc::Global;
 
 const FORGET_HELP: &str = "Forget the rows whose key has this SHA-1 first";
+
+const FILE_HELP: &str = "The record's file, or the folder of a cache";
 
 /// The record's file, and the sum of the keys whose rows are to be forgotten.
 #[derive(Drop)]
@@ -26,20 +28,12 @@ pub fn record_command<'a>(alloc: Global) -> Result<Command<'a>, Error>
     ensures local { IfOk result IsLocal }
     ensures err { IfErr result (λ e. kind_of e ≡ ErrorKind.OutOfMemory) }
 {
-    let forget = named(alloc, "forget", "HEX", FORGET_HELP);
     let command = Command::new(alloc, "record")
         .about("Shows the rows of a record of jobs")
-        .after_help(RECORD_END)
-        .arg(forget)?;
+        .after_help(RECORD_END);
+    let command = with_named(alloc, command, "forget", "HEX", FORGET_HELP)?;
     let command = with_flags(alloc, command)?;
-    let file = placed(
-        alloc,
-        "FILE",
-        true,
-        "The record's file, or the folder of a cache",
-    );
-    let command = command.arg(file)?;
-    Ok(command)
+    with_placed(alloc, command, "FILE", true, FILE_HELP)
 }
 
 /// What the words of `record` name.

@@ -1,9 +1,9 @@
 ghost use Rattle.std.specs.Prelude.{◌≡◌, ◌≤◌, ◌^◌, IfOk, IfErr, Some, false, option_map};
-ghost use Rattle.clap.specs.Words.{app_of, found_of, kind_of, rows_of, rule_of};
+ghost use Rattle.clap.specs.Words.{app_of, found_of, kind_of, rows_of, rule_of, with_rule};
 ghost use Rattle.program_words.specs.Flags.{IsLocal};
-ghost use Rattle.program_words.specs.RunWords.{IsChosen, named_rule, numbered_rule, placed_rule, run_command, run_wish, telling_in, wish_of_run, with_archive, with_base, with_cache, with_costs, with_document, with_folders, with_inputs, with_keep, with_keep_failed, with_numbers, with_objects, with_print, with_progress, with_record, with_slots, with_template, with_validate, with_verbose};
+ghost use Rattle.program_words.specs.RunWords.{IsChosen, named_rule, numbered_rule, placed_rule, run_command, run_wish, telling_in, wish_of_run, with_cache, with_costs, with_folders, with_inputs, with_keep_failed, with_numbers, with_objects, with_print};
 
-use crate::flags::{RUN_END, flag, is_given, is_wanted, with_flags};
+use crate::flags::{RUN_END, is_given, is_wanted, with_flag, with_flags};
 use crate::shows::{Shows, shows_of};
 use crate::telling::Telling;
 use clap::builder::ValueParser;
@@ -72,6 +72,8 @@ const PRINT_HELP: &str =
 const INPUTS_HELP: &str =
     "The input object's file, in JSON, or `-` for standard input; without it the object is empty";
 
+const DOCUMENT_HELP: &str = "The document of the process, in JSON";
+
 /// The files and folders that the words of a run name, and the texts of its numbers.
 #[derive(Drop)]
 pub struct RunWords<'a> {
@@ -101,8 +103,8 @@ pub struct RunWords<'a> {
     pub explain: bool,
 }
 
-/// An argument by its place.
-pub fn placed<'a>(alloc: Global, id: &'a str, is_required: bool, help: &'a str) -> Arg<'a>
+// An argument by its place.
+fn placed<'a>(alloc: Global, id: &'a str, is_required: bool, help: &'a str) -> Arg<'a>
     ensures rule { rule_of result ≡ placed_rule id.now is_required }
     ensures local { result.global ≡ false }
 {
@@ -112,8 +114,8 @@ pub fn placed<'a>(alloc: Global, id: &'a str, is_required: bool, help: &'a str) 
         .help(help)
 }
 
-/// An argument by its name, as `--work DIR`.
-pub fn named<'a>(alloc: Global, id: &'a str, value: &'a str, help: &'a str) -> Arg<'a>
+// An argument by its name, as `--work DIR`.
+fn named<'a>(alloc: Global, id: &'a str, value: &'a str, help: &'a str) -> Arg<'a>
     ensures rule { rule_of result ≡ named_rule id.now }
     ensures local { result.global ≡ false }
 {
@@ -124,7 +126,7 @@ pub fn named<'a>(alloc: Global, id: &'a str, value: &'a str, help: &'a str) -> A
         .help(help)
 }
 
-/// An option with a number within limits, as `--slots N`.
+// An option with a number within limits, as `--slots N`.
 fn numbered<'a>(alloc: Global, id: &'a str, least: u64, most: u64, help: &'a str) -> Arg<'a>
     ensures rule { rule_of result ≡ numbered_rule id.now least most }
     ensures local { result.global ≡ false }
@@ -137,6 +139,64 @@ fn numbered<'a>(alloc: Global, id: &'a str, least: u64, most: u64, help: &'a str
         .help(help)
 }
 
+/// A command with an argument by its place.
+pub fn with_placed<'a>(
+    alloc: Global,
+    command: Command<'a>,
+    id: &'a str,
+    is_required: bool,
+    help: &'a str,
+) -> Result<Command<'a>, Error>
+    requires { IsLocal command }
+    ensures ok { IfOk result (λ whole. app_of whole
+        ≡ with_rule (app_of command.entry) (placed_rule id.now is_required)) }
+    ensures local { IfOk result IsLocal }
+    ensures err { IfErr result (λ e. kind_of e ≡ ErrorKind.OutOfMemory) }
+{
+    let arg = placed(alloc, id, is_required, help);
+    let command = command.arg(arg)?;
+    Ok(command)
+}
+
+/// A command with an argument by its name.
+pub fn with_named<'a>(
+    alloc: Global,
+    command: Command<'a>,
+    id: &'a str,
+    value: &'a str,
+    help: &'a str,
+) -> Result<Command<'a>, Error>
+    requires { IsLocal command }
+    ensures ok { IfOk result (λ whole. app_of whole
+        ≡ with_rule (app_of command.entry) (named_rule id.now)) }
+    ensures local { IfOk result IsLocal }
+    ensures err { IfErr result (λ e. kind_of e ≡ ErrorKind.OutOfMemory) }
+{
+    let arg = named(alloc, id, value, help);
+    let command = command.arg(arg)?;
+    Ok(command)
+}
+
+// A command with an option that has a number within limits.
+fn with_numbered<'a>(
+    alloc: Global,
+    command: Command<'a>,
+    id: &'a str,
+    least: u64,
+    most: u64,
+    help: &'a str,
+) -> Result<Command<'a>, Error>
+    requires { IsLocal command }
+    ensures ok { IfOk result (λ whole. app_of whole
+        ≡ with_rule (app_of command.entry) (numbered_rule id.now least most)) }
+    ensures local { IfOk result IsLocal }
+    ensures err { IfErr result (λ e. kind_of e ≡ ErrorKind.OutOfMemory) }
+{
+    let arg = numbered(alloc, id, least, most, help);
+    let command = command.arg(arg)?;
+    Ok(command)
+}
+
 // A command with the two folders alone.
 fn with_folders<'a>(alloc: Global, command: Command<'a>) -> Result<Command<'a>, Error>
     requires { IsLocal command }
@@ -144,83 +204,33 @@ fn with_folders<'a>(alloc: Global, command: Command<'a>) -> Result<Command<'a>, 
     ensures local { IfOk result IsLocal }
     ensures err { IfErr result (λ e. kind_of e ≡ ErrorKind.OutOfMemory) }
 {
-    let work = named(alloc, "work", "DIR", WORK_HELP);
-    let command = command.arg(work)?;
-    let outdir = named(alloc, "outdir", "DIR", OUTDIR_HELP);
-    let command = command.arg(outdir)?;
-    Ok(command)
+    let command = with_named(alloc, command, "work", "DIR", WORK_HELP)?;
+    with_named(alloc, command, "outdir", "DIR", OUTDIR_HELP)
 }
 
-// And with how many jobs may run side by side.
-fn with_slots<'a>(alloc: Global, command: Command<'a>) -> Result<Command<'a>, Error>
-    requires { IsLocal command }
-    ensures ok { IfOk result (λ whole. app_of whole ≡ with_slots (app_of command.entry)) }
-    ensures local { IfOk result IsLocal }
-    ensures err { IfErr result (λ e. kind_of e ≡ ErrorKind.OutOfMemory) }
-{
-    let slots = numbered(alloc, "slots", LEAST_SLOTS, MOST_SLOTS, SLOTS_HELP);
-    let command = with_folders(alloc, command)?.arg(slots)?;
-    Ok(command)
-}
-
-// And with how often a job is started again.
+// And with how many jobs may run side by side, and how often a job is started again.
 fn with_numbers<'a>(alloc: Global, command: Command<'a>) -> Result<Command<'a>, Error>
     requires { IsLocal command }
     ensures ok { IfOk result (λ whole. app_of whole ≡ with_numbers (app_of command.entry)) }
     ensures local { IfOk result IsLocal }
     ensures err { IfErr result (λ e. kind_of e ≡ ErrorKind.OutOfMemory) }
 {
-    let retries = numbered(alloc, "retries", 0, MOST_RETRIES, RETRIES_HELP);
-    let command = with_slots(alloc, command)?.arg(retries)?;
-    Ok(command)
+    let command = with_folders(alloc, command)?;
+    let command = with_numbered(alloc, command, "slots", LEAST_SLOTS, MOST_SLOTS, SLOTS_HELP)?;
+    with_numbered(alloc, command, "retries", 0, MOST_RETRIES, RETRIES_HELP)
 }
 
-// And with the record.
-fn with_record<'a>(alloc: Global, command: Command<'a>) -> Result<Command<'a>, Error>
-    requires { IsLocal command }
-    ensures ok { IfOk result (λ whole. app_of whole ≡ with_record (app_of command.entry)) }
-    ensures local { IfOk result IsLocal }
-    ensures err { IfErr result (λ e. kind_of e ≡ ErrorKind.OutOfMemory) }
-{
-    let record = named(alloc, "record", "FILE", RECORD_HELP);
-    let command = with_numbers(alloc, command)?.arg(record)?;
-    Ok(command)
-}
-
-// And with the archive.
-fn with_archive<'a>(alloc: Global, command: Command<'a>) -> Result<Command<'a>, Error>
-    requires { IsLocal command }
-    ensures ok { IfOk result (λ whole. app_of whole ≡ with_archive (app_of command.entry)) }
-    ensures local { IfOk result IsLocal }
-    ensures err { IfErr result (λ e. kind_of e ≡ ErrorKind.OutOfMemory) }
-{
-    let archive = named(alloc, "archive", "DIR", ARCHIVE_HELP);
-    let command = with_record(alloc, command)?.arg(archive)?;
-    Ok(command)
-}
-
-// And with the cache.
+// And with the record, the archive and the cache.
 fn with_cache<'a>(alloc: Global, command: Command<'a>) -> Result<Command<'a>, Error>
     requires { IsLocal command }
     ensures ok { IfOk result (λ whole. app_of whole ≡ with_cache (app_of command.entry)) }
     ensures local { IfOk result IsLocal }
     ensures err { IfErr result (λ e. kind_of e ≡ ErrorKind.OutOfMemory) }
 {
-    let cache = named(alloc, "cache", "DIR", CACHE_HELP);
-    let command = with_archive(alloc, command)?.arg(cache)?;
-    Ok(command)
-}
-
-// And with what any load costs.
-fn with_base<'a>(alloc: Global, command: Command<'a>) -> Result<Command<'a>, Error>
-    requires { IsLocal command }
-    ensures ok { IfOk result (λ whole. app_of whole ≡ with_base (app_of command.entry)) }
-    ensures local { IfOk result IsLocal }
-    ensures err { IfErr result (λ e. kind_of e ≡ ErrorKind.OutOfMemory) }
-{
-    let base = numbered(alloc, "base", 0, MOST_COST, BASE_HELP);
-    let command = with_cache(alloc, command)?.arg(base)?;
-    Ok(command)
+    let command = with_numbers(alloc, command)?;
+    let command = with_named(alloc, command, "record", "FILE", RECORD_HELP)?;
+    let command = with_named(alloc, command, "archive", "DIR", ARCHIVE_HELP)?;
+    with_named(alloc, command, "cache", "DIR", CACHE_HELP)
 }
 
 /// A command with the options of each run, and of each plan of one.
@@ -230,26 +240,9 @@ pub fn with_costs<'a>(alloc: Global, command: Command<'a>) -> Result<Command<'a>
     ensures local { IfOk result IsLocal }
     ensures err { IfErr result (λ e. kind_of e ≡ ErrorKind.OutOfMemory) }
 {
-    let rate = numbered(alloc, "rate", LEAST_RATE, MOST_COST, RATE_HELP);
-    let command = with_base(alloc, command)?.arg(rate)?;
-    Ok(command)
-}
-
-// A command with its document.
-fn with_document<'a>(alloc: Global, command: Command<'a>) -> Result<Command<'a>, Error>
-    requires { IsLocal command }
-    ensures ok { IfOk result (λ whole. app_of whole ≡ with_document (app_of command.entry)) }
-    ensures local { IfOk result IsLocal }
-    ensures err { IfErr result (λ e. kind_of e ≡ ErrorKind.OutOfMemory) }
-{
-    let document = placed(
-        alloc,
-        "DOCUMENT",
-        true,
-        "The document of the process, in JSON",
-    );
-    let command = command.arg(document)?;
-    Ok(command)
+    let command = with_cache(alloc, command)?;
+    let command = with_numbered(alloc, command, "base", 0, MOST_COST, BASE_HELP)?;
+    with_numbered(alloc, command, "rate", LEAST_RATE, MOST_COST, RATE_HELP)
 }
 
 /// A command with its document and its input object.
@@ -259,100 +252,47 @@ pub fn with_inputs<'a>(alloc: Global, command: Command<'a>) -> Result<Command<'a
     ensures local { IfOk result IsLocal }
     ensures err { IfErr result (λ e. kind_of e ≡ ErrorKind.OutOfMemory) }
 {
-    let inputs = placed(alloc, "INPUTS", false, INPUTS_HELP);
-    let command = with_document(alloc, command)?.arg(inputs)?;
+    let command = with_placed(alloc, command, "DOCUMENT", true, DOCUMENT_HELP)?;
+    let command = with_placed(alloc, command, "INPUTS", false, INPUTS_HELP)?;
     Ok(command)
 }
 
-// The subcommand `run` with these, and with the lines on its jobs.
-fn verbose_command<'a>(alloc: Global) -> Result<Command<'a>, Error>
-    ensures ok { IfOk result (λ command. app_of command ≡ with_verbose) }
+// The subcommand `run` with these, and with how it tells of its jobs.
+fn objects_command<'a>(alloc: Global) -> Result<Command<'a>, Error>
+    ensures ok { IfOk result (λ command. app_of command ≡ with_objects) }
     ensures local { IfOk result IsLocal }
     ensures err { IfErr result (λ e. kind_of e ≡ ErrorKind.OutOfMemory) }
 {
     let command = Command::new(alloc, "run")
         .about("Runs a process and prints its output object")
         .after_help(RUN_END);
-    let verbose = flag(alloc, "verbose", VERBOSE_HELP);
-    let command = with_costs(alloc, command)?.arg(verbose)?;
-    Ok(command)
+    let command = with_costs(alloc, command)?;
+    let command = with_flag(alloc, command, "verbose", VERBOSE_HELP)?;
+    let command = with_flag(alloc, command, "progress", PROGRESS_HELP)?;
+    with_flag(alloc, command, "progress-json", OBJECTS_HELP)
 }
 
-// And with the one line on its jobs.
-fn progress_command<'a>(alloc: Global) -> Result<Command<'a>, Error>
-    ensures ok { IfOk result (λ command. app_of command ≡ with_progress) }
-    ensures local { IfOk result IsLocal }
-    ensures err { IfErr result (λ e. kind_of e ≡ ErrorKind.OutOfMemory) }
-{
-    let progress = flag(alloc, "progress", PROGRESS_HELP);
-    let command = verbose_command(alloc)?.arg(progress)?;
-    Ok(command)
-}
-
-// And with the lines of JSON on its jobs.
-fn objects_command<'a>(alloc: Global) -> Result<Command<'a>, Error>
-    ensures ok { IfOk result (λ command. app_of command ≡ with_objects) }
-    ensures local { IfOk result IsLocal }
-    ensures err { IfErr result (λ e. kind_of e ≡ ErrorKind.OutOfMemory) }
-{
-    let objects = flag(alloc, "progress-json", OBJECTS_HELP);
-    let command = progress_command(alloc)?.arg(objects)?;
-    Ok(command)
-}
-
-// And with the option that leaves the work folder.
-fn keep_command<'a>(alloc: Global) -> Result<Command<'a>, Error>
-    ensures ok { IfOk result (λ command. app_of command ≡ with_keep) }
-    ensures local { IfOk result IsLocal }
-    ensures err { IfErr result (λ e. kind_of e ≡ ErrorKind.OutOfMemory) }
-{
-    let keep = flag(alloc, "keep", KEEP_HELP);
-    let command = objects_command(alloc)?.arg(keep)?;
-    Ok(command)
-}
-
-// And with the one that leaves it after a failure.
+// And with the options that leave the work folder.
 fn keep_failed_command<'a>(alloc: Global) -> Result<Command<'a>, Error>
     ensures ok { IfOk result (λ command. app_of command ≡ with_keep_failed) }
     ensures local { IfOk result IsLocal }
     ensures err { IfErr result (λ e. kind_of e ≡ ErrorKind.OutOfMemory) }
 {
-    let keep_failed = flag(alloc, "keep-failed", KEEP_FAILED_HELP);
-    let command = keep_command(alloc)?.arg(keep_failed)?;
-    Ok(command)
+    let command = objects_command(alloc)?;
+    let command = with_flag(alloc, command, "keep", KEEP_HELP)?;
+    with_flag(alloc, command, "keep-failed", KEEP_FAILED_HELP)
 }
 
-// And with the option that checks alone.
-fn validate_command<'a>(alloc: Global) -> Result<Command<'a>, Error>
-    ensures ok { IfOk result (λ command. app_of command ≡ with_validate) }
-    ensures local { IfOk result IsLocal }
-    ensures err { IfErr result (λ e. kind_of e ≡ ErrorKind.OutOfMemory) }
-{
-    let validate = flag(alloc, "validate", VALIDATE_HELP);
-    let command = keep_failed_command(alloc)?.arg(validate)?;
-    Ok(command)
-}
-
-// And with the one that prints an input object.
-fn template_command<'a>(alloc: Global) -> Result<Command<'a>, Error>
-    ensures ok { IfOk result (λ command. app_of command ≡ with_template) }
-    ensures local { IfOk result IsLocal }
-    ensures err { IfErr result (λ e. kind_of e ≡ ErrorKind.OutOfMemory) }
-{
-    let template = flag(alloc, "template", TEMPLATE_HELP);
-    let command = validate_command(alloc)?.arg(template)?;
-    Ok(command)
-}
-
-// And with the one that prints a command.
+// And with those that run nothing.
 fn print_command<'a>(alloc: Global) -> Result<Command<'a>, Error>
     ensures ok { IfOk result (λ command. app_of command ≡ with_print) }
     ensures local { IfOk result IsLocal }
     ensures err { IfErr result (λ e. kind_of e ≡ ErrorKind.OutOfMemory) }
 {
-    let print = flag(alloc, "print-command", PRINT_HELP);
-    let command = template_command(alloc)?.arg(print)?;
-    Ok(command)
+    let command = keep_failed_command(alloc)?;
+    let command = with_flag(alloc, command, "validate", VALIDATE_HELP)?;
+    let command = with_flag(alloc, command, "template", TEMPLATE_HELP)?;
+    with_flag(alloc, command, "print-command", PRINT_HELP)
 }
 
 /// The subcommand `run`.
