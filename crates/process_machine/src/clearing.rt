@@ -2,16 +2,16 @@
 
 use crate::layout::joined;
 use crate::removing::remove_folder;
-use crate::trouble::Trouble;
-use crate::world::World;
+use crate::trouble::{Trouble, or_trouble};
 use staging::Found;
 use std::fs;
+use std::rt::Files;
 
 /// Removes the folders `in` and `tmp` of a job, whose folder `out` was listed: nobody reads them any more. What can't be removed stays.
 ///
 /// Both stay where anything that was listed is a link, since it may lead into them, and is read and copied as what it leads to. The
 /// folders of no other job, and of none in another work folder, are removed.
-pub(crate) fn clear_job<R: World>(
+pub(crate) fn clear_job<R: AllocGlobal + Files + Clone + Drop>(
     rt: &R,
     work: &str,
     folder: &str,
@@ -35,29 +35,45 @@ fn is_number(text: &str) -> bool {
 }
 
 // Whether the folder, or anything that was listed of it, is a link.
-fn has_link<R: World>(rt: &R, folder: &str, found: &[Found]) -> Result<bool, Trouble> {
+fn has_link<R: AllocGlobal + Files>(
+    rt: &R,
+    folder: &str,
+    found: &[Found],
+) -> Result<bool, Trouble> {
     if is_link(rt, folder)? {
         return Ok(true);
     }
     for entry in found {
-        let path = joined(rt.alloc(), folder, entry.name.as_str())?;
-        if is_link(rt, path.as_str())? {
+        if is_link_below(rt, folder, entry.name.as_str())? {
             return Ok(true);
         }
     }
     Ok(false)
 }
 
-fn is_link<R: World>(rt: &R, path: &str) -> Result<bool, Trouble> {
-    Ok(fs::symlink_metadata(rt, path)?.is_symlink())
+fn is_link_below<R: AllocGlobal + Files>(
+    rt: &R,
+    folder: &str,
+    name: &str,
+) -> Result<bool, Trouble> {
+    let path = joined(rt.alloc(), folder, name)?;
+    is_link(rt, path.as_str())
 }
 
-fn remove_parts<R: World>(rt: &R, job: &str) -> Result<(), Trouble> {
+fn is_link<R: Files>(rt: &R, path: &str) -> Result<bool, Trouble> {
+    Ok(or_trouble(fs::symlink_metadata(rt, path))?.is_symlink())
+}
+
+fn remove_parts<R: AllocGlobal + Files + Clone + Drop>(rt: &R, job: &str) -> Result<(), Trouble> {
     remove_part(rt, job, "in")?;
     remove_part(rt, job, "tmp")
 }
 
-fn remove_part<R: World>(rt: &R, job: &str, name: &str) -> Result<(), Trouble> {
+fn remove_part<R: AllocGlobal + Files + Clone + Drop>(
+    rt: &R,
+    job: &str,
+    name: &str,
+) -> Result<(), Trouble> {
     let part = joined(rt.alloc(), job, name)?;
     let _removed = remove_folder(rt, part.as_str());
     Ok(())

@@ -3,12 +3,12 @@
 use crate::identity::names;
 use crate::layout::{joined, make_parent};
 use crate::tree::{Below, Others, is_folder, tree_below};
-use crate::trouble::Trouble;
-use crate::world::World;
+use crate::trouble::{Trouble, or_trouble};
 use std::alloc::Global;
-use std::fs::{File, OpenFile, Permissions};
+use std::fs::{File, Metadata, OpenFile, Permissions};
 use std::io::{Read, Write};
 use std::os::unix::fs::PermissionsExt;
+use std::rt::Files;
 use std::{fs, io, mem};
 
 /// The bytes that one read asks for.
@@ -22,7 +22,11 @@ pub(crate) const OWNERS_RIGHTS: u32 = 0o700;
 /// Replaces a file or link that is at the path a file is copied to; what the link points to is left alone. A folder
 /// that is at the path stays as it is, and so does a file where a folder is copied to: both are trouble. Where the copy
 /// fails, nothing of it is left. A file that is copied to where it is stays as it is.
-pub(crate) fn copy<R: World>(rt: &R, source: &str, target: &str) -> Result<(), Trouble> {
+pub(crate) fn copy<R: AllocGlobal + Files + Clone + Drop>(
+    rt: &R,
+    source: &str,
+    target: &str,
+) -> Result<(), Trouble> {
     if is_folder(rt, source)? {
         copy_folder(rt, source, target)
     } else {
@@ -31,14 +35,23 @@ pub(crate) fn copy<R: World>(rt: &R, source: &str, target: &str) -> Result<(), T
 }
 
 // All names are read before the first copy, so a folder can be copied to a place inside of it.
-fn copy_folder<R: World>(rt: &R, source: &str, target: &str) -> Result<(), Trouble> {
+fn copy_folder<R: AllocGlobal + Files + Clone + Drop>(
+    rt: &R,
+    source: &str,
+    target: &str,
+) -> Result<(), Trouble> {
     let tree = tree_below(rt, source, Others::Refused)?;
     let copied = copy_tree(rt, source, tree.as_slice(), target);
     mem::drop(tree);
     copied
 }
 
-fn copy_tree<R: World>(rt: &R, source: &str, tree: &[Below], target: &str) -> Result<(), Trouble> {
+fn copy_tree<R: AllocGlobal + Files>(
+    rt: &R,
+    source: &str,
+    tree: &[Below],
+    target: &str,
+) -> Result<(), Trouble> {
     make_folder(rt, source, target)?;
     let filled = fill_folder(rt, source, tree, target);
     if filled.is_err() {
@@ -47,7 +60,7 @@ fn copy_tree<R: World>(rt: &R, source: &str, tree: &[Below], target: &str) -> Re
     filled
 }
 
-fn fill_folder<R: World>(
+fn fill_folder<R: AllocGlobal + Files>(
     rt: &R,
     source: &str,
     tree: &[Below],
@@ -59,7 +72,12 @@ fn fill_folder<R: World>(
     Ok(())
 }
 
-fn copy_below<R: World>(rt: &R, source: &str, below: &Below, target: &str) -> Result<(), Trouble> {
+fn copy_below<R: AllocGlobal + Files>(
+    rt: &R,
+    source: &str,
+    below: &Below,
+    target: &str,
+) -> Result<(), Trouble> {
     let from = joined(rt.alloc(), source, below.name.as_str())?;
     let to = joined(rt.alloc(), target, below.name.as_str())?;
     if below.is_dir {
@@ -70,36 +88,45 @@ fn copy_below<R: World>(rt: &R, source: &str, below: &Below, target: &str) -> Re
 }
 
 // Makes a folder with the permissions of another, and with its owner's rights.
-fn make_folder<R: World>(rt: &R, source: &str, target: &str) -> Result<(), Trouble> {
+fn make_folder<R: Files>(rt: &R, source: &str, target: &str) -> Result<(), Trouble> {
     let rights = folder_rights(rt, source)?;
-    fs::create_dir(rt, target)?;
-    Ok(fs::set_permissions(rt, target, rights)?)
+    or_trouble(fs::create_dir(rt, target))?;
+    or_trouble(fs::set_permissions(rt, target, rights))
 }
 
 /// The same of a folder that may be there. The folders above it are made where they are absent.
-pub(crate) fn make_folder_as<R: World>(rt: &R, source: &str, target: &str) -> Result<(), Trouble> {
+pub(crate) fn make_folder_as<R: Files>(rt: &R, source: &str, target: &str) -> Result<(), Trouble> {
     let rights = folder_rights(rt, source)?;
-    fs::create_dir_all(rt, target)?;
-    Ok(fs::set_permissions(rt, target, rights)?)
+    or_trouble(fs::create_dir_all(rt, target))?;
+    or_trouble(fs::set_permissions(rt, target, rights))
 }
 
 // The permissions of a folder, with its owner's rights.
-fn folder_rights<R: World>(rt: &R, folder: &str) -> Result<Permissions, Trouble> {
-    let mode = fs::metadata(rt, folder)?.permissions().mode();
+fn folder_rights<R: Files>(rt: &R, folder: &str) -> Result<Permissions, Trouble> {
+    let mode = mode_of(fs::metadata(rt, folder))?;
     Ok(Permissions::from_mode(mode | OWNERS_RIGHTS))
 }
 
-fn copy_file<R: World>(rt: &R, source: &str, target: &str) -> Result<(), Trouble> {
+/// The mode of what is at a path.
+pub(crate) fn mode_of(found: io::Result<Metadata>) -> Result<u32, Trouble> {
+    Ok(or_trouble(found)?.permissions().mode())
+}
+
+fn copy_file<R: AllocGlobal + Files>(rt: &R, source: &str, target: &str) -> Result<(), Trouble> {
     if names(rt, source, target) {
         return Ok(());
     }
-    let mut reader = File::open(rt, source)?;
+    let mut reader = or_trouble(File::open(rt, source))?;
     copy_from(rt, &mut reader, target)
 }
 
-fn copy_from<R: World>(rt: &R, reader: &mut R::File, target: &str) -> Result<(), Trouble> {
+fn copy_from<R: AllocGlobal + Files>(
+    rt: &R,
+    reader: &mut R::File,
+    target: &str,
+) -> Result<(), Trouble> {
     clear(rt, target)?;
-    let mut writer = File::create_new(rt, target)?;
+    let mut writer = or_trouble(File::create_new(rt, target))?;
     let filled = fill(rt.alloc(), reader, &mut writer);
     mem::drop(writer);
     if filled.is_err() {
@@ -109,14 +136,14 @@ fn copy_from<R: World>(rt: &R, reader: &mut R::File, target: &str) -> Result<(),
 }
 
 /// A new file at a path, in the place of a file or link that is there. The folders above it are made where they are absent.
-pub(crate) fn made_anew<R: World>(rt: &R, path: &str) -> Result<R::File, Trouble> {
+pub(crate) fn made_anew<R: Files>(rt: &R, path: &str) -> Result<R::File, Trouble> {
     make_parent(rt, path)?;
     clear(rt, path)?;
-    Ok(File::create_new(rt, path)?)
+    or_trouble(File::create_new(rt, path))
 }
 
 // Removes the file or link at a path, where there is one.
-fn clear<R: World>(rt: &R, path: &str) -> Result<(), Trouble> {
+fn clear<R: Files>(rt: &R, path: &str) -> Result<(), Trouble> {
     match fs::remove_file(rt, path) {
         Ok(()) => Ok(()),
         Err(error) if error.kind() == io::ErrorKind::NotFound => Ok(()),
@@ -135,19 +162,28 @@ fn fill<F: Read + Write + OpenFile>(
 
 /// Gives a copy the permissions of what it was read from.
 pub(crate) fn keep_permissions<F: OpenFile>(reader: &F, writer: &F) -> Result<(), Trouble> {
-    let permissions = reader.metadata()?.permissions();
-    Ok(writer.set_permissions(permissions)?)
+    let permissions = or_trouble(reader.metadata())?.permissions();
+    or_trouble(writer.set_permissions(permissions))
 }
 
 // Reads to the end in blocks, and writes each.
 fn pour<F: Read + Write>(alloc: Global, reader: &mut F, writer: &mut F) -> Result<(), Trouble> {
     let mut block = vec![in alloc; 0u8; BLOCK]?;
     for _ in 0..u64::MAX {
-        let count = reader.read(&mut block)?;
-        if count == 0 {
+        if pour_block(reader, writer, &mut block)? == 0 {
             return Ok(());
         }
-        writer.write_all(&block[..count])?;
     }
     Err(Trouble::Failed)
+}
+
+// Reads into the block once, and writes what was read.
+fn pour_block<F: Read + Write>(
+    reader: &mut F,
+    writer: &mut F,
+    block: &mut [u8],
+) -> Result<usize, Trouble> {
+    let count = reader.read(block)?;
+    or_trouble(writer.write_all(&block[..count]))?;
+    Ok(count)
 }

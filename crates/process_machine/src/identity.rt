@@ -1,8 +1,8 @@
 //! Which file a path names.
 
-use crate::world::World;
 use std::fs::Metadata;
 use std::os::unix::fs::MetadataExt;
+use std::rt::Files;
 use std::{fs, io};
 
 /// A file, a folder or a link, told from all others: its device, and its number there.
@@ -13,17 +13,17 @@ pub(crate) struct FileId {
 }
 
 /// What is at a path, where anything is. A link is taken as itself.
-pub(crate) fn file_at<R: World>(rt: &R, path: &str) -> Option<FileId> {
+pub(crate) fn file_at<R: Files>(rt: &R, path: &str) -> Option<FileId> {
     id_of(fs::symlink_metadata(rt, path))
 }
 
 /// What a path leads to, where it leads to anything.
-pub(crate) fn file_behind<R: World>(rt: &R, path: &str) -> Option<FileId> {
+pub(crate) fn file_behind<R: Files>(rt: &R, path: &str) -> Option<FileId> {
     id_of(fs::metadata(rt, path))
 }
 
 /// Whether a path, or the link that is there, names what is at another path.
-pub(crate) fn names<R: World>(rt: &R, path: &str, other: &str) -> bool {
+pub(crate) fn names<R: Files>(rt: &R, path: &str, other: &str) -> bool {
     match file_at(rt, other) {
         None => false,
         Some(id) => is_id(file_at(rt, path), id) || is_id(file_behind(rt, path), id),

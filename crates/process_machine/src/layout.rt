@@ -3,16 +3,16 @@ ghost use Rattle.std.specs.Prelude.{◌≡◌, ℕ, List, IfSome, IsSome};
 ghost use Rattle.process_machine.specs.Targets as spec;
 
 use crate::copying::copy;
-use crate::trouble::Trouble;
-use crate::world::World;
+use crate::trouble::{Trouble, or_trouble};
 use staging::{Move, StagePlan};
 use std::alloc::{AllocError, Global};
+use std::rt::Files;
 use std::{fs, io};
 
 /// Makes the folder of a job with `out`, `tmp` and `in` in it, and copies the files and folders of its plan into `in`.
 ///
 /// The job's folder has to be absent.
-pub(crate) fn lay_out<R: World>(
+pub(crate) fn lay_out<R: AllocGlobal + Files + Clone + Drop>(
     rt: &R,
     work: &str,
     plan: &StagePlan,
@@ -22,22 +22,26 @@ pub(crate) fn lay_out<R: World>(
     lay_out_in(rt, folder.as_str(), plan)
 }
 
-fn lay_out_in<R: World>(rt: &R, folder: &str, plan: &StagePlan) -> Result<(), Trouble> {
-    fs::create_dir(rt, folder)?;
+fn lay_out_in<R: AllocGlobal + Files + Clone + Drop>(
+    rt: &R,
+    folder: &str,
+    plan: &StagePlan,
+) -> Result<(), Trouble> {
+    or_trouble(fs::create_dir(rt, folder))?;
     make_parts(rt, folder)?;
     let inputs = joined(rt.alloc(), folder, "in")?;
     copy_all(rt, plan.moves.as_slice(), inputs.as_str(), &mut 0)
 }
 
-fn make_parts<R: World>(rt: &R, folder: &str) -> Result<(), Trouble> {
+fn make_parts<R: AllocGlobal + Files>(rt: &R, folder: &str) -> Result<(), Trouble> {
     make_part(rt, folder, "out")?;
     make_part(rt, folder, "tmp")?;
     make_part(rt, folder, "in")
 }
 
-fn make_part<R: World>(rt: &R, folder: &str, name: &str) -> Result<(), Trouble> {
+fn make_part<R: AllocGlobal + Files>(rt: &R, folder: &str, name: &str) -> Result<(), Trouble> {
     let part = joined(rt.alloc(), folder, name)?;
-    Ok(fs::create_dir(rt, part.as_str())?)
+    or_trouble(fs::create_dir(rt, part.as_str()))
 }
 
 fn job_folder(alloc: Global, work: &str, number: u64) -> Result<String, AllocError> {
@@ -51,7 +55,7 @@ pub(crate) fn joined(alloc: Global, folder: &str, name: &str) -> Result<String, 
 /// Copies files and folders to their targets, each of which has to be below this folder. The folders between it and a target are
 /// made where they are absent, and none of them may be a link, since what is put there would be elsewhere. Where one fails, `at` is
 /// its index.
-pub(crate) fn copy_all<R: World>(
+pub(crate) fn copy_all<R: AllocGlobal + Files + Clone + Drop>(
     rt: &R,
     moves: &[Move],
     below: &str,
@@ -70,33 +74,38 @@ pub(crate) fn copy_all<R: World>(
 }
 
 /// Makes the folders above a path, where they are absent.
-pub(crate) fn make_parent<R: World>(rt: &R, path: &str) -> Result<(), Trouble> {
+pub(crate) fn make_parent<R: Files>(rt: &R, path: &str) -> Result<(), Trouble> {
     match path.rsplit_once('/') {
-        Some((parent, _)) => Ok(fs::create_dir_all(rt, parent)?),
+        Some((parent, _)) => or_trouble(fs::create_dir_all(rt, parent)),
         None => Ok(()),
     }
 }
 
 // Makes a folder, and the folders in it that lead to this name, where they are absent.
-fn make_way<R: World>(rt: &R, folder: &str, name: &str) -> Result<(), Trouble> {
-    fs::create_dir_all(rt, folder)?;
+fn make_way<R: AllocGlobal + Files>(rt: &R, folder: &str, name: &str) -> Result<(), Trouble> {
+    or_trouble(fs::create_dir_all(rt, folder))?;
     match name.rsplit_once('/') {
         Some((way, _)) => make_along(rt, folder, way),
         None => Ok(()),
     }
 }
 
-fn make_along<R: World>(rt: &R, folder: &str, way: &str) -> Result<(), Trouble> {
+fn make_along<R: AllocGlobal + Files>(rt: &R, folder: &str, way: &str) -> Result<(), Trouble> {
     let mut path = String::from_str(rt.alloc(), folder)?;
     for part in way.split('/') {
-        path.push('/')?;
-        path.push_str(part)?;
-        make_own(rt, path.as_str())?;
+        make_next(rt, &mut path, part)?;
     }
     Ok(())
 }
 
-fn make_own<R: World>(rt: &R, path: &str) -> Result<(), Trouble> {
+// Makes a folder of this name in the one at a path, which goes on to it.
+fn make_next<R: Files>(rt: &R, path: &mut String, name: &str) -> Result<(), Trouble> {
+    path.push('/')?;
+    path.push_str(name)?;
+    make_own(rt, path.as_str())
+}
+
+fn make_own<R: Files>(rt: &R, path: &str) -> Result<(), Trouble> {
     match fs::create_dir(rt, path) {
         Ok(()) => Ok(()),
         Err(error) => found_own(rt, path, &error),
@@ -104,7 +113,7 @@ fn make_own<R: World>(rt: &R, path: &str) -> Result<(), Trouble> {
 }
 
 // Where a folder can't be made, one that is there is as good; a link to one is not.
-fn found_own<R: World>(rt: &R, path: &str, error: &io::Error) -> Result<(), Trouble> {
+fn found_own<R: Files>(rt: &R, path: &str, error: &io::Error) -> Result<(), Trouble> {
     match fs::symlink_metadata(rt, path) {
         Ok(metadata) if metadata.is_dir() => Ok(()),
         _ => Err(Trouble::of(error)),

@@ -3,12 +3,12 @@ ghost use Rattle.std.specs.Prelude.{◌≡◌, Ok, None, IfErr, IsErr};
 ghost use Rattle.process_machine.specs.Listing as spec;
 
 use crate::layout::joined;
-use crate::trouble::Trouble;
+use crate::trouble::{Trouble, or_trouble};
 use crate::unlisted::{NoListing, Obstacle};
-use crate::world::World;
 use plain_data::Text;
 use std::alloc::{AllocError, Global};
 use std::fs::{DirEntry, FileType, ReadDir};
+use std::rt::Files;
 use std::{fs, io};
 
 const MOST_LEVELS: usize = 32;
@@ -42,7 +42,7 @@ struct Branch<'a> {
 ///
 /// A name that is no UTF-8, more than 32 levels or 65,536 entries, and a folder that can't be read are refused, and so is what is
 /// neither a file nor a folder, where that is not left out.
-pub(crate) fn tree_below<R: World>(
+pub(crate) fn tree_below<R: AllocGlobal + Files + Clone + Drop>(
     rt: &R,
     folder: &str,
     others: Others,
@@ -54,7 +54,7 @@ pub(crate) fn tree_below<R: World>(
 }
 
 // Adds the entries of a folder, and of each folder below it.
-fn add_all<R: World>(
+fn add_all<R: AllocGlobal + Files + Clone + Drop>(
     rt: &R,
     folder: &str,
     others: Others,
@@ -71,7 +71,7 @@ fn add_all<R: World>(
 }
 
 // Adds the entries of what is at an index, where it is a folder.
-fn add_entries_of<R: World>(
+fn add_entries_of<R: AllocGlobal + Files + Clone + Drop>(
     rt: &R,
     folder: &str,
     index: usize,
@@ -93,7 +93,7 @@ fn subfolder_at(alloc: Global, tree: &[Below], index: usize) -> Result<Option<Te
 }
 
 // Adds the entries of the folder that has this name below the first folder.
-fn add_entries<R: World>(
+fn add_entries<R: AllocGlobal + Files + Clone + Drop>(
     rt: &R,
     folder: &str,
     name: &str,
@@ -115,7 +115,7 @@ fn path_below(alloc: Global, folder: &str, name: &str) -> Result<String, AllocEr
     joined(alloc, folder, name)
 }
 
-fn add_entries_at<R: World>(
+fn add_entries_at<R: AllocGlobal + Files + Clone + Drop>(
     rt: &R,
     branch: Branch<'_>,
     others: Others,
@@ -127,7 +127,10 @@ fn add_entries_at<R: World>(
     Ok(())
 }
 
-fn opened<R: World>(rt: &R, folder: &str) -> Result<ReadDir<R>, NoListing>
+fn opened<R: AllocGlobal + Files + Clone + Drop>(
+    rt: &R,
+    folder: &str,
+) -> Result<ReadDir<R>, NoListing>
     ensures { IfErr result (spec.IsOn folder.now) }
 {
     match fs::read_dir(rt, folder) {
@@ -136,7 +139,7 @@ fn opened<R: World>(rt: &R, folder: &str) -> Result<ReadDir<R>, NoListing>
     }
 }
 
-fn add_next<R: World>(
+fn add_next<R: AllocGlobal + Files + Drop>(
     rt: &R,
     branch: Branch<'_>,
     entry: io::Result<DirEntry<R>>,
@@ -160,25 +163,42 @@ fn without_entry(alloc: Global, folder: &str, error: &io::Error) -> NoListing
 }
 
 // Adds an entry of the folder of this name.
-fn add_entry<R: World>(
+fn add_entry<R: AllocGlobal + Files>(
     rt: &R,
     folder: &str,
     entry: &DirEntry<R>,
     others: Others,
     tree: &mut Vec<Below>,
 ) -> Result<(), NoListing> {
-    if let Some(is_dir) = kind_at(rt, entry.path().as_str(), others)? {
-        let name = name_below(rt.alloc(), folder, entry.file_name())?;
-        if let Some(why) = limit_passed(name.as_str(), tree.len()) {
-            return Err(NoListing::at(rt.alloc(), entry.path().as_str(), why));
+    match kind_at(rt, entry.path().as_str(), others)? {
+        Some(is_dir) => {
+            let name = name_below(rt.alloc(), folder, entry.file_name())?;
+            add_below(rt.alloc(), entry.path().as_str(), name, is_dir, tree)
         }
-        tree.push(Below { name, is_dir })?;
+        None => Ok(()),
     }
-    Ok(())
+}
+
+// Adds what is at a path, under its name, where no limit is passed.
+fn add_below(
+    alloc: Global,
+    path: &str,
+    name: Text,
+    is_dir: bool,
+    tree: &mut Vec<Below>,
+) -> Result<(), NoListing> {
+    match limit_passed(name.as_str(), tree.len()) {
+        Some(why) => Err(NoListing::at(alloc, path, why)),
+        None => Ok(tree.push(Below { name, is_dir })?),
+    }
 }
 
 // Whether there is a folder at a path, or a file; nothing where it is left out.
-fn kind_at<R: World>(rt: &R, path: &str, others: Others) -> Result<Option<bool>, NoListing>
+fn kind_at<R: AllocGlobal + Files>(
+    rt: &R,
+    path: &str,
+    others: Others,
+) -> Result<Option<bool>, NoListing>
     ensures { IfErr result (spec.IsOn path.now) }
 {
     match fs::metadata(rt, path) {
@@ -236,8 +256,8 @@ fn limit_passed(name: &str, before: usize) -> Option<Obstacle>
 }
 
 /// Whether there is a folder at a path; what is neither a folder nor a file is trouble.
-pub(crate) fn is_folder<R: World>(rt: &R, path: &str) -> Result<bool, Trouble> {
-    let kind = fs::metadata(rt, path)?.file_type();
+pub(crate) fn is_folder<R: Files>(rt: &R, path: &str) -> Result<bool, Trouble> {
+    let kind = or_trouble(fs::metadata(rt, path))?.file_type();
     if kind.is_dir() || kind.is_file() {
         Ok(kind.is_dir())
     } else {

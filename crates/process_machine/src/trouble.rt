@@ -37,6 +37,14 @@ impl<T: Drop> From<AllocFailed<T>> for Trouble {
     }
 }
 
+/// What came of a call of the system, with trouble in place of its error.
+pub(crate) fn or_trouble<T>(outcome: io::Result<T>) -> Result<T, Trouble> {
+    match outcome {
+        Ok(value) => Ok(value),
+        Err(error) => Err(Trouble::of(&error)),
+    }
+}
+
 impl From<io::Error> for Trouble {
     fn from(error: io::Error) -> Trouble {
         Trouble::of(&error)
