@@ -1,5 +1,6 @@
-use Rattle.std.proofs.Common.{◌≡◌, ◌<◌, ◌-◌, length, take, drop, get_or, sym, ◌∙◌, arith, rules}
+use Rattle.std.proofs.Common.{◌≡◌, ◌<◌, ◌-◌, length, take, drop, get_or, sym, subst, ◌∙◌, arith, rules}
 use Rattle.std.specs.Vec.Iter.{into_iter_items}
+use Rattle.scatter_shape.specs.Gathered.{IsNested}
 use Rattle.scatter_shape.proofs.Nested.{one_is_there, one_value, row_has_all, shorter, so_far_all, so_far_more}
 use Rattle.scatter_shape.proofs.nesting.+nested.Goals as goal
 
@@ -29,4 +30,5 @@ pub returns-after-loop : goal.returns-after-loop
 returns-after-loop t c =
     let ls = c.args.lengths.now in
     let end : c.loop.counter ≡ get_or ls 0 0 = omega arith in
-    so_far_all ls (into_iter_items c.args.values.now) c.loop.items (into_iter_items c.loop.values) c.loop.counter c.in-len1-up.len_at_least end c.loop.invariant
+    subst (IsNested ls (into_iter_items c.args.values.now) (into_iter_items c.loop.values)) (sym c.of_items.ensures)
+    (so_far_all ls (into_iter_items c.args.values.now) c.loop.items (into_iter_items c.loop.values) c.loop.counter c.in-len1-up.len_at_least end c.loop.invariant)

@@ -1,3 +1,4 @@
+use Rattle.std.proofs.Common.{◌∙◌}
 use Rattle.std.specs.Vec.Iter.{into_iter_items}
 use Rattle.scatter_shape.proofs.Nested.{flat_gathered, has_all, nested_gathered}
 use Rattle.scatter_shape.proofs.nesting.gather.Goals as goal
@@ -8,7 +9,7 @@ nested-requires c =
 
 pub returns-in-Dotproduct-clause-in_place : goal.returns-in-Dotproduct-clause-in_place
 returns-in-Dotproduct-clause-in_place c =
-    flat_gathered c.args.shape.now.method c.args.shape.now.lengths c.args.values.items c.from_vec.result c.in-Dotproduct.is c.from_vec.ensures c.requires.one_each
+    c.of_items.ensures ∙ flat_gathered c.args.shape.now.method c.args.shape.now.lengths c.args.values.items c.from_vec.result c.in-Dotproduct.is c.from_vec.ensures c.requires.one_each
 
 pub returns-in-NestedCrossproduct-clause-in_place : goal.returns-in-NestedCrossproduct-clause-in_place
 returns-in-NestedCrossproduct-clause-in_place c =
