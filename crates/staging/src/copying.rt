@@ -1,4 +1,4 @@
-//! Plans and listings, copied in memory of their own.
+//! Copies of plans and listings.
 ghost use Rattle.std.specs.Prelude.{◌≡◌, IfOk};
 
 use crate::found::Found;
@@ -31,7 +31,7 @@ impl Move {
 }
 
 impl StagePlan {
-    /// A copy in memory of its own.
+    /// A copy. Lists of its values have a further owner, and the rest is in new memory.
     pub fn clone_in(&self, alloc: Global) -> Result<StagePlan, AllocError>
         ensures { IfOk result (λ copy. copy ≡ self.now) }
     {

@@ -35,8 +35,7 @@ pub(crate) fn moved_fields(
     let mut found = Vec::with_capacity(alloc, fields.len())?;
     for field in fields.as_slice() {
         let name = field.0.copied(alloc)?;
-        let value = moved(alloc, &field.1, way)?;
-        found.push((name, value.shared(alloc)?))?;
+        found.push((name, moved(alloc, &field.1, way)?))?;
     }
     Ok(Keyed::from_sorted(found))
 }
@@ -48,7 +47,9 @@ fn moved(alloc: Global, value: &Value, way: Way<'_>) -> Result<Value, AllocError
     match value {
         Value::FileVal(file) => Ok(Value::FileVal(moved_file(alloc, file, way)?)),
         Value::DirVal(dir) => Ok(Value::DirVal(moved_dir(alloc, dir, way)?)),
-        Value::List(items) => Ok(Value::of_items(moved_items(alloc, items.as_items(), way)?)),
+        Value::List(items) => {
+            Value::of_items(moved_items(alloc, items.as_items(), way)?).shared(alloc)
+        }
         Value::Fields(fields) => Ok(Value::Fields(moved_fields(alloc, fields, way)?)),
         _ => value.clone_in(alloc),
     }

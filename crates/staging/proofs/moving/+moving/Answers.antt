@@ -12,9 +12,12 @@ use Rattle.staging.proofs.moving.+moving.Goals as goal
 
 pub moved-returns-in_ok-moved_items-in-List : goal.moved-returns-in_ok-moved_items-in-List
 moved-returns-in_ok-moved_items-in-List t c =
+    let is : c.of_items.result ≡ (copied c.args.value.now).moved (folder_by c.args.way) =
     c.of_items.ensures
     ∙ ap value.List (c.in_ok-moved_items-in-List.ensures ∙ ap (items_moved (folder_by c.args.way)) c.as_items.ensures)
     ∙ sym (list_moved (folder_by c.args.way) c.in-List.items) ∙ ap (λ (v : Value). (copied v).moved (folder_by c.args.way)) (sym c.in-List.is)
+    in
+    subst (λ (v : Value). IfOk c.shared.result (λ found. found ≡ v)) is c.shared.ensures
 
 pub moved-returns-in_ok-moved_fields-in-Fields : goal.moved-returns-in_ok-moved_fields-in-Fields
 moved-returns-in_ok-moved_fields-in-Fields t c =
