@@ -81,7 +81,7 @@ pub fn process_inputs<P: Parameter>(
     Ok(taken)
 }
 
-// Puts the value of an input that has no fault.
+// Puts the value of an input that has no fault. Where it is a list, each step that takes it whole shares it.
 fn take_input<P: Parameter>(
     alloc: Global,
     fields: &Keyed<Value>,
@@ -101,7 +101,7 @@ fn take_input<P: Parameter>(
         input.now))) }
 {
     let value = without_fault(alloc, input, taken_value(alloc, fields, measures, input)?)?;
-    Ok(put(alloc, taken, &input.0, value)?)
+    Ok(put(alloc, taken, &input.0, value.shared(alloc)?)?)
 }
 
 // The value, where nothing is wrong with it.

@@ -70,7 +70,7 @@ fn out_gathered(
     }
     match all_under(alloc, walks, name)? {
         None => Ok(None),
-        Some(values) => Ok(Some(gather(alloc, shape, values)?)),
+        Some(values) => Ok(Some(gather(alloc, shape, values)?.shared(alloc)?)),
     }
 }
 

@@ -72,7 +72,10 @@ fn out_value(
 {
     match found {
         None => Ok(None),
-        Some(outputs) => Ok(Some(value_under(alloc, outputs, name, place)?)),
+        Some(outputs) => {
+            let value = value_under(alloc, outputs, name, place)?;
+            Ok(Some(value.shared(alloc)?))
+        }
     }
 }
 
