@@ -1,12 +1,13 @@
 -- The words of `plan`, in the terms of `clap`, and what they name.
 use Rattle.std.specs.Prelude.{List, Bool, codes}
+use Rattle.std.specs.List.{fold}
 use Rattle.clap.specs.Words.{App, Row, new_app, with_rule}
 use Rattle.program_words.specs.Flags.{flag_rule, is_given, with_flags}
-use Rattle.program_words.specs.RunWords.{RunWish, run_wish, wish_of_run, with_costs, with_inputs}
+use Rattle.program_words.specs.RunWords.{RunWish, input_rules, run_wish, shared_rules, wish_of_run}
 use Rattle.program_words.specs.declared.planning.PlanWords.{PlanWords}
 
 abbrev pub plan_command : App
-plan_command = with_inputs (with_flags (with_rule (with_costs (new_app (codes "plan"))) (flag_rule (codes "dot"))))
+plan_command = fold with_rule (with_flags (with_rule (fold with_rule (new_app (codes "plan")) shared_rules) (flag_rule (codes "dot")))) input_rules
 
 -- what a run with these words would name, and whether a picture of the plan is wanted
 pub record PlanWish : Type 0 where

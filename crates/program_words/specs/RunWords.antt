@@ -1,5 +1,6 @@
 -- The words of `run`, in the terms of `clap`, and what they name.
-use Rattle.std.specs.Prelude.{◌≡◌, ◌≤◌, ℕ, List, Option, Some, None, Bool, true, false, codes, unwrap_or, option_map, if◌then◌else◌}
+use Rattle.std.specs.Prelude.{◌≡◌, ◌≤◌, ◌++◌, ◌∷◌, [], ℕ, List, Option, Some, None, Bool, true, false, codes, unwrap_or, option_map, if◌then◌else◌}
+use Rattle.std.specs.List.{fold}
 use Rattle.std.specs.Str.Parse.{IsNumeral, digits_value, without_leading_plus}
 use Rattle.clap.specs.Words.{App, Row, Rule, Text, first_of, new_app, new_rule, with_rule}
 use Rattle.clap.specs.declared.builder.ArgAction.TheVariants.{Set}
@@ -22,66 +23,42 @@ named_rule id = record (new_rule id) { long = Some id; action = Some Set; value_
 abbrev pub numbered_rule : Text → ℕ → ℕ → Rule
 numbered_rule id least most = record (named_rule id) { parser = Some (Unsigned least most) }
 
--- a command with the two folders alone, with the two numbers, with the record, with the archive, with the cache, and with what a load costs
-abbrev pub with_folders : App → App
-with_folders command = with_rule (with_rule command (named_rule (codes "work"))) (named_rule (codes "outdir"))
+-- the options of each run, and of each plan of one: its folders, how many jobs run side by side and how often one is started again, what is kept, and
+-- what a load costs
+abbrev pub folder_rules : List Rule
+folder_rules = named_rule (codes "work") ∷ (named_rule (codes "outdir") ∷ [])
 
-abbrev pub with_slots : App → App
-with_slots command = with_rule (with_folders command) (numbered_rule (codes "slots") 1 64)
+abbrev pub number_rules : List Rule
+number_rules = numbered_rule (codes "slots") 1 64 ∷ (numbered_rule (codes "retries") 0 10 ∷ [])
 
-abbrev pub with_numbers : App → App
-with_numbers command = with_rule (with_slots command) (numbered_rule (codes "retries") 0 10)
+abbrev pub store_rules : List Rule
+store_rules = named_rule (codes "record") ∷ (named_rule (codes "archive") ∷ (named_rule (codes "cache") ∷ []))
 
-abbrev pub with_record : App → App
-with_record command = with_rule (with_numbers command) (named_rule (codes "record"))
+abbrev pub cost_rules : List Rule
+cost_rules = numbered_rule (codes "base") 0 1000000000000 ∷ (numbered_rule (codes "rate") 1 1000000000000 ∷ [])
 
-abbrev pub with_archive : App → App
-with_archive command = with_rule (with_record command) (named_rule (codes "archive"))
+abbrev pub shared_rules : List Rule
+shared_rules = folder_rules ++ number_rules ++ store_rules ++ cost_rules
 
-abbrev pub with_cache : App → App
-with_cache command = with_rule (with_archive command) (named_rule (codes "cache"))
+-- those of `run` alone: what it tells of its jobs, whether its work folder stays, and what it shows in place of a run's outputs
+abbrev pub telling_rules : List Rule
+telling_rules = flag_rule (codes "verbose") ∷ (flag_rule (codes "progress") ∷ (flag_rule (codes "progress-json") ∷ []))
 
-abbrev pub with_base : App → App
-with_base command = with_rule (with_cache command) (numbered_rule (codes "base") 0 1000000000000)
+abbrev pub keeping_rules : List Rule
+keeping_rules = flag_rule (codes "keep") ∷ (flag_rule (codes "keep-failed") ∷ [])
 
-abbrev pub with_costs : App → App
-with_costs command = with_rule (with_base command) (numbered_rule (codes "rate") 1 1000000000000)
+abbrev pub showing_rules : List Rule
+showing_rules = flag_rule (codes "validate") ∷ (flag_rule (codes "template") ∷ (flag_rule (codes "print-command") ∷ []))
 
--- and with its document, and with the input object too
-abbrev pub with_document : App → App
-with_document command = with_rule command (placed_rule (codes "DOCUMENT") true)
+abbrev pub run_rules : List Rule
+run_rules = telling_rules ++ keeping_rules ++ showing_rules
 
-abbrev pub with_inputs : App → App
-with_inputs command = with_rule (with_document command) (placed_rule (codes "INPUTS") false)
-
--- `run` with these, with what it tells of its jobs, and with whether its work folder stays
-abbrev pub with_verbose : App
-with_verbose = with_rule (with_costs (new_app (codes "run"))) (flag_rule (codes "verbose"))
-
-abbrev pub with_progress : App
-with_progress = with_rule with_verbose (flag_rule (codes "progress"))
-
-abbrev pub with_objects : App
-with_objects = with_rule with_progress (flag_rule (codes "progress-json"))
-
-abbrev pub with_keep : App
-with_keep = with_rule with_objects (flag_rule (codes "keep"))
-
-abbrev pub with_keep_failed : App
-with_keep_failed = with_rule with_keep (flag_rule (codes "keep-failed"))
-
--- and with what it shows in place of a run's outputs
-abbrev pub with_validate : App
-with_validate = with_rule with_keep_failed (flag_rule (codes "validate"))
-
-abbrev pub with_template : App
-with_template = with_rule with_validate (flag_rule (codes "template"))
-
-abbrev pub with_print : App
-with_print = with_rule with_template (flag_rule (codes "print-command"))
+-- the document and the input object
+abbrev pub input_rules : List Rule
+input_rules = placed_rule (codes "DOCUMENT") true ∷ (placed_rule (codes "INPUTS") false ∷ [])
 
 abbrev pub run_command : App
-run_command = with_inputs (with_flags with_print)
+run_command = fold with_rule (with_flags (fold with_rule (new_app (codes "run")) (shared_rules ++ run_rules))) input_rules
 
 -- how it tells of its jobs: lines of JSON come first, `--verbose` comes before `--progress`, and `--quiet` before all of them
 abbrev pub telling_in : List Row → Telling

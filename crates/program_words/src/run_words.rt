@@ -1,7 +1,8 @@
-ghost use Rattle.std.specs.Prelude.{◌≡◌, ◌≤◌, ◌^◌, IfOk, IfErr, Some, false, option_map};
-ghost use Rattle.clap.specs.Words.{app_of, found_of, kind_of, rows_of, rule_of, with_rule};
+ghost use Rattle.std.specs.Prelude.{◌≡◌, ◌≤◌, ◌^◌, ◌++◌, IfOk, IfErr, Some, false, codes, option_map};
+ghost use Rattle.std.specs.List.{fold};
+ghost use Rattle.clap.specs.Words.{app_of, found_of, kind_of, new_app, rows_of, rule_of, with_rule};
 ghost use Rattle.program_words.specs.Flags.{IsLocal};
-ghost use Rattle.program_words.specs.RunWords.{IsChosen, named_rule, numbered_rule, placed_rule, run_command, run_wish, telling_in, wish_of_run, with_cache, with_costs, with_folders, with_inputs, with_keep_failed, with_numbers, with_objects, with_print};
+ghost use Rattle.program_words.specs.RunWords.{IsChosen, folder_rules, input_rules, keeping_rules, named_rule, number_rules, numbered_rule, placed_rule, run_command, run_rules, run_wish, shared_rules, store_rules, telling_in, telling_rules, wish_of_run};
 
 use crate::flags::{RUN_END, is_given, is_wanted, with_flag, with_flags};
 use crate::shows::{Shows, shows_of};
@@ -200,7 +201,8 @@ fn with_numbered<'a>(
 // A command with the two folders alone.
 fn with_folders<'a>(alloc: Global, command: Command<'a>) -> Result<Command<'a>, Error>
     requires { IsLocal command }
-    ensures ok { IfOk result (λ whole. app_of whole ≡ with_folders (app_of command.entry)) }
+    ensures ok { IfOk result (λ whole. app_of whole
+        ≡ fold with_rule (app_of command.entry) folder_rules) }
     ensures local { IfOk result IsLocal }
     ensures err { IfErr result (λ e. kind_of e ≡ ErrorKind.OutOfMemory) }
 {
@@ -211,7 +213,8 @@ fn with_folders<'a>(alloc: Global, command: Command<'a>) -> Result<Command<'a>, 
 // And with how many jobs may run side by side, and how often a job is started again.
 fn with_numbers<'a>(alloc: Global, command: Command<'a>) -> Result<Command<'a>, Error>
     requires { IsLocal command }
-    ensures ok { IfOk result (λ whole. app_of whole ≡ with_numbers (app_of command.entry)) }
+    ensures ok { IfOk result (λ whole. app_of whole
+        ≡ fold with_rule (app_of command.entry) (folder_rules ++ number_rules)) }
     ensures local { IfOk result IsLocal }
     ensures err { IfErr result (λ e. kind_of e ≡ ErrorKind.OutOfMemory) }
 {
@@ -223,7 +226,8 @@ fn with_numbers<'a>(alloc: Global, command: Command<'a>) -> Result<Command<'a>, 
 // And with the record, the archive and the cache.
 fn with_cache<'a>(alloc: Global, command: Command<'a>) -> Result<Command<'a>, Error>
     requires { IsLocal command }
-    ensures ok { IfOk result (λ whole. app_of whole ≡ with_cache (app_of command.entry)) }
+    ensures ok { IfOk result (λ whole. app_of whole
+        ≡ fold with_rule (app_of command.entry) (folder_rules ++ number_rules ++ store_rules)) }
     ensures local { IfOk result IsLocal }
     ensures err { IfErr result (λ e. kind_of e ≡ ErrorKind.OutOfMemory) }
 {
@@ -236,7 +240,8 @@ fn with_cache<'a>(alloc: Global, command: Command<'a>) -> Result<Command<'a>, Er
 /// A command with the options of each run, and of each plan of one.
 pub fn with_costs<'a>(alloc: Global, command: Command<'a>) -> Result<Command<'a>, Error>
     requires { IsLocal command }
-    ensures ok { IfOk result (λ whole. app_of whole ≡ with_costs (app_of command.entry)) }
+    ensures ok { IfOk result (λ whole. app_of whole
+        ≡ fold with_rule (app_of command.entry) shared_rules) }
     ensures local { IfOk result IsLocal }
     ensures err { IfErr result (λ e. kind_of e ≡ ErrorKind.OutOfMemory) }
 {
@@ -248,7 +253,8 @@ pub fn with_costs<'a>(alloc: Global, command: Command<'a>) -> Result<Command<'a>
 /// A command with its document and its input object.
 pub fn with_inputs<'a>(alloc: Global, command: Command<'a>) -> Result<Command<'a>, Error>
     requires { IsLocal command }
-    ensures ok { IfOk result (λ whole. app_of whole ≡ with_inputs (app_of command.entry)) }
+    ensures ok { IfOk result (λ whole. app_of whole
+        ≡ fold with_rule (app_of command.entry) input_rules) }
     ensures local { IfOk result IsLocal }
     ensures err { IfErr result (λ e. kind_of e ≡ ErrorKind.OutOfMemory) }
 {
@@ -259,7 +265,8 @@ pub fn with_inputs<'a>(alloc: Global, command: Command<'a>) -> Result<Command<'a
 
 // The subcommand `run` with these, and with how it tells of its jobs.
 fn objects_command<'a>(alloc: Global) -> Result<Command<'a>, Error>
-    ensures ok { IfOk result (λ command. app_of command ≡ with_objects) }
+    ensures ok { IfOk result (λ command. app_of command
+        ≡ fold with_rule (new_app (codes "run")) (shared_rules ++ telling_rules)) }
     ensures local { IfOk result IsLocal }
     ensures err { IfErr result (λ e. kind_of e ≡ ErrorKind.OutOfMemory) }
 {
@@ -274,7 +281,8 @@ fn objects_command<'a>(alloc: Global) -> Result<Command<'a>, Error>
 
 // And with the options that leave the work folder.
 fn keep_failed_command<'a>(alloc: Global) -> Result<Command<'a>, Error>
-    ensures ok { IfOk result (λ command. app_of command ≡ with_keep_failed) }
+    ensures ok { IfOk result (λ command. app_of command
+        ≡ fold with_rule (new_app (codes "run")) (shared_rules ++ telling_rules ++ keeping_rules)) }
     ensures local { IfOk result IsLocal }
     ensures err { IfErr result (λ e. kind_of e ≡ ErrorKind.OutOfMemory) }
 {
@@ -285,7 +293,8 @@ fn keep_failed_command<'a>(alloc: Global) -> Result<Command<'a>, Error>
 
 // And with those that run nothing.
 fn print_command<'a>(alloc: Global) -> Result<Command<'a>, Error>
-    ensures ok { IfOk result (λ command. app_of command ≡ with_print) }
+    ensures ok { IfOk result (λ command. app_of command
+        ≡ fold with_rule (new_app (codes "run")) (shared_rules ++ run_rules)) }
     ensures local { IfOk result IsLocal }
     ensures err { IfErr result (λ e. kind_of e ≡ ErrorKind.OutOfMemory) }
 {
