@@ -1,12 +1,13 @@
 # Completions of deparohi for bash.
 _deparohi() {
     local word=${COMP_WORDS[COMP_CWORD]} before=${COMP_WORDS[COMP_CWORD - 1]} command=${COMP_WORDS[1]} every="--explain --quiet --help"
+    local import="--imported --container --cores --ram --environment --allow-outside --leave-javascript --force-docker-as-hint"
     if [ "$COMP_CWORD" -eq 1 ]; then
         COMPREPLY=($(compgen -W "run plan check record demo help --help --version" -- "$word"))
         return
     fi
     case $before in
-    --work | --outdir | --archive | --cache)
+    --work | --outdir | --archive | --cache | --imported)
         mapfile -t COMPREPLY < <(compgen -d -- "$word")
         return
         ;;
@@ -18,7 +19,15 @@ _deparohi() {
         COMPREPLY=($(compgen -W "all" -- "$word"))
         return
         ;;
-    --retries | --base | --rate | --forget)
+    --container)
+        COMPREPLY=($(compgen -W "docker podman apptainer" -- "$word"))
+        return
+        ;;
+    --environment)
+        COMPREPLY=($(compgen -v -- "$word"))
+        return
+        ;;
+    --retries | --base | --rate | --forget | --cores | --ram)
         COMPREPLY=()
         return
         ;;
@@ -28,8 +37,8 @@ _deparohi() {
         return
     fi
     case $command in
-    run) every="--work --outdir --slots --retries --record --archive --cache --base --rate --verbose --progress --progress-json --keep --keep-failed --validate --template --print-command $every" ;;
-    plan) every="--dot --work --outdir --slots --retries --record --archive --cache --base --rate $every" ;;
+    run) every="--work --outdir --slots --retries --record --archive --cache --base --rate --verbose --progress --progress-json --keep --keep-failed --validate --template --print-command $import $every" ;;
+    plan) every="--dot --work --outdir --slots --retries --record --archive --cache --base --rate $import $every" ;;
     record) every="--forget $every" ;;
     help) every="" ;;
     esac

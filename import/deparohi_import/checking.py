@@ -6,7 +6,7 @@ from .findings import LEFT, WRONG, Findings, place_of
 from .marked import Fields, Items
 from .standard import is_of_standard
 from .table import OBJECTS, REQUIREMENTS, TYPES, form_of, is_ignored
-from .types import FLOATS
+from .kinds import FLOATS
 
 SUBJECTS = {"Variable": "envName"}
 MAIN_FIELDS = {"ToolInput": "type", "ToolOutput": "type", "WorkflowInput": "type", "WorkflowOutput": "type", "StepInput": "source", "Variable": "envValue"}

@@ -15,7 +15,3 @@ class ImportFault(Exception):
             return self.words
         place = self.file if self.line is None else f"{self.file}:{self.line}"
         return f"{place}: {self.words}"
-
-
-class TooLong(Exception):
-    """JavaScript that is too long for a word of a command."""

@@ -34,6 +34,23 @@ class Findings:
             self.seen.add(found)
             self.all.append(found)
 
+    def mark(self) -> int:
+        """Returns how many findings there are, to come back to."""
+        return len(self.all)
+
+    def back_to(self, mark: int) -> List[Finding]:
+        """Takes the findings since a mark out, and returns them."""
+        taken = self.all[mark:]
+        del self.all[mark:]
+        self.seen.difference_update(taken)
+        return taken
+
+    def put(self, found: Finding) -> None:
+        """Adds a finding that was taken out."""
+        if found not in self.seen:
+            self.seen.add(found)
+            self.all.append(found)
+
     def of(self, kind: str) -> List[Finding]:
         return [it for it in self.all if it.kind == kind]
 

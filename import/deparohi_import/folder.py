@@ -1,14 +1,16 @@
 """The folder that an import writes: documents, an input object, the files of literals and a report."""
 
+import hashlib
 import json
 import os
-from typing import Any, List, Set
+from typing import Any, Callable, Dict, List, Set
 from urllib.parse import quote
 
 from .fault import ImportFault
 
-REPORT, INPUTS, LITERALS = "report.txt", "inputs.json", "literals"
+REPORT, INPUTS, LITERALS, MADE_BY = "report.txt", "inputs.json", "literals", "made-by"
 LONG = 200_000
+MOST_CHARACTERS = 16 << 20
 
 
 class Folder:
@@ -19,6 +21,7 @@ class Folder:
         self.names: Set[str] = {REPORT, INPUTS, LITERALS}
         self.documents: List[tuple] = []
         self.literals: List[tuple] = []
+        self.extras: Dict[str, str] = {}
 
     def name(self, wanted: str) -> str:
         """Returns a name for a document that none has yet."""
@@ -32,6 +35,14 @@ class Folder:
 
     def document(self, name: str, value: Any) -> None:
         self.documents.append((name, value))
+
+    def extra(self, name: str, text: Callable[[], str]) -> str:
+        """Adds a file of this name, which is asked for its text once. Returns the name."""
+        if name not in self.extras:
+            self.extras[name] = text()
+            if sum(map(len, self.extras.values())) > MOST_CHARACTERS:
+                raise ImportFault(f"with their expressionLib the plans of jobs have more than {MOST_CHARACTERS} characters", self.path)
+        return name
 
     def file(self, name: str, contents: str) -> str:
         path = os.path.join(self.path, LITERALS, str(len(self.literals)), name)
@@ -49,9 +60,13 @@ class Folder:
             os.makedirs(self.path, exist_ok=True)
             for path, contents in self.literals:
                 self.write_literal(path, contents)
+            for name, text in self.extras.items():
+                os.makedirs(os.path.dirname(os.path.join(self.path, name)), exist_ok=True)
+                self.put(os.path.join(self.path, name), text)
             for name, value in self.documents:
                 self.put(os.path.join(self.path, name), json_text(value))
             self.put(os.path.join(self.path, REPORT), report)
+            self.put(os.path.join(self.path, MADE_BY), f"{sum_of(''.join(text for name, text in self.extras.items() if name.endswith('.js')))}\n")
         except OSError as error:
             raise ImportFault(f"the folder can't be written: {error.strerror}", error.filename or self.path) from None
 
@@ -72,6 +87,10 @@ class Folder:
         with open(f"{path}.new", "w", encoding="utf-8", errors="surrogatepass", newline="") as it:
             it.write(text)
         os.replace(f"{path}.new", path)
+
+
+def sum_of(text: str) -> str:
+    return hashlib.sha1(text.encode("utf-8", "surrogatepass")).hexdigest()
 
 
 def reference_to(name: str) -> str:

@@ -1,19 +1,26 @@
 """One import: from the name of a document to the folder of JSON."""
 
+import json
 import os
 from typing import Any, Dict, List, Set, Tuple
 
 from .checking import Checker
+from .choices import Choices
+from .expressions import parameters
 from .fault import ImportFault
-from .findings import LEFT, REWRITTEN, Findings
+from .findings import LEFT, REWRITTEN, WRONG, Findings
+from .flow import kinds_of
 from .folder import INPUTS, Folder, reference_to
+from .kinds import encoded, fits, is_unlike, mentions
 from .loading import Library, fault_at, graph_of
 from .javascript import JavaScript
 from .marked import Fields, Items
 from .names import short
+from .plans import Evaluator
 from .places import SCHEME, NotAFile, path_of, split_fragment
 from .process import Rewriter, Scope, named_types
 from .requirements import Requirements
+from .secondary import all_static, with_companions
 from .values import Values
 from .versions import UnknownVersion, current
 
@@ -36,10 +43,15 @@ class Packed:
 class Import:
     """The import of one document, with its input object."""
 
-    def __init__(self, folder: Folder, forced: Set[str], evaluates: bool = True) -> None:
-        self.folder, self.findings, self.library = folder, Findings(), Library()
-        self.values = Values(self.findings, folder.file, folder.folder)
-        self.rewriter = Rewriter(self.findings, Requirements(self.findings, forced), self.values, self.run_named, JavaScript(self.findings, evaluates))
+    def __init__(self, folder: Folder, forced: Set[str], choices: Choices = Choices()) -> None:
+        self.folder, self.findings, self.library = folder, Findings(), Library(choices.outside)
+        self.values = Values(self.findings, folder)
+        requirements, javascript = Requirements(self.findings, forced, choices), JavaScript(self.findings, choices.evaluates, folder, self.peek)
+        self.rewriter = Rewriter(self.findings, requirements, self.values, self.run_named, javascript, choices)
+        # The types of the root's inputs and outputs, expanded.
+        self.types: Tuple[Dict[str, Any], Dict[str, Any]] = ({}, {})
+        self.is_in_job = False
+        self.discovering: Set[str] = set()
         self.written: Dict[Tuple, str] = {}
         self.open: List[Tuple] = []
         self.upgraded: Dict[str, Fields] = {}
@@ -52,7 +64,9 @@ class Import:
         if not os.path.exists(path):
             path, fragment = split_fragment(location)
             path = named_file(path)
-        return self.process(os.path.abspath(path), fragment, Scope({}, {}), None, None)
+        name = self.process(os.path.abspath(path), fragment, Scope({}, {}), None, None)
+        self.numbers(name)
+        return name
 
     def whole(self, path: str, node: Any, key: Any) -> Fields:
         """Returns a document with its imports in place, of a version that is read."""
@@ -78,12 +92,19 @@ class Import:
         if len(self.open) >= MOST_NESTED:
             raise fault_at(f"more than {MOST_NESTED} workflows are inside one another", node, key)
         raw, scope = self.chosen(path, fragment, scope, node, key)
+        scope = scope._replace(version=str(self.upgraded[path]["cwlVersion"]))
+        if not self.written:
+            names = {**scope.names, **named_types(raw)}
+            self.discovering = {short(key) for key, it in parameters(raw.get("inputs")) if isinstance(it, Fields) and not all_static(it.get("secondaryFiles"))}
+            self.types = kinds_of(raw.get("inputs"), names), kinds_of(raw.get("outputs"), names)
         stem = os.path.splitext(os.path.basename(path))[0]
         name = self.folder.name(f"{stem}-{short(fragment)}" if fragment and self.written else stem)
         self.written[asked] = name
         self.open.append((path, fragment))
+        self.rewriter.is_root = len(self.open) == 1
         made = self.rewriter.process(raw, scope)
         self.open.pop()
+        self.is_in_job = isinstance(made, Evaluator)
         self.size += size_of(made)
         if self.size > MOST_VALUES:
             raise ImportFault(f"with a copy for each set of requirements the documents have more than {MOST_VALUES} values", path)
@@ -115,6 +136,21 @@ class Import:
         words = f"the packed document has no process {wanted}; it has {ids}"
         raise ImportFault(words, path, whole.line_of("$graph")) if node is None else fault_at(words, node, key)
 
+    def peek(self, step: Fields, names: Dict[str, Any]) -> Any:
+        """Returns the process that a step runs, with the types that have names there, or None where it can't be looked at."""
+        run = step.get("run")
+        if isinstance(run, Fields):
+            return run, {**names, **named_types(run)}
+        if not isinstance(run, str):
+            return None
+        try:
+            before, fragment = split_fragment(run)
+            path = path_of(before, step.file) if before else step.file
+            raw, scope = self.chosen(path, fragment, Scope({}, names), step, "run")
+        except (NotAFile, ImportFault):
+            return None
+        return raw, {**scope.names, **named_types(raw)}
+
     def run_named(self, step: Fields, value: str, scope: Scope) -> str:
         before, fragment = split_fragment(value)
         try:
@@ -132,6 +168,26 @@ class Import:
             self.findings.add(LEFT, step, "run", "cwlVersion", str(fault))
             return value
 
+    def value(self, raw: Fields, key: str, it: Any) -> Any:
+        """Returns the value of an input as it is kept between jobs, held against its type where that is kept otherwise than it is told."""
+        kind = self.types[0].get(short(key))
+        # Only a job of node tells numbers in Any from others.
+        is_open = kind is not None and mentions(kind, ("Any",)) and not self.is_in_job
+        made = self.values.rewritten(raw, key, it, None if is_open else kind)
+        if self.is_in_job and short(key) in self.discovering:
+            made = with_companions(made)
+        if kind is None or it is None:
+            return made
+        if is_unlike(kind) and not fits(made, kind):
+            self.findings.add(WRONG, raw, key, "type", f"the value of {short(key)} isn't of its type")
+        return encoded(made, kind)
+
+    def numbers(self, name: str) -> None:
+        """Writes beside a document the types by which its outputs are given back, where numbers with a fraction may be among them."""
+        found = {key: kind for key, kind in self.types[1].items() if mentions(kind, ("float", "double", "record", "Any"))}
+        if found:
+            self.folder.extra(f"{name}.numbers", lambda: json.dumps(found, indent=1) + "\n")
+
     def inputs(self, path: str) -> None:
         """Imports an input object."""
         path = path if os.path.exists(path) else named_file(path)
@@ -146,7 +202,7 @@ class Import:
                 self.findings.add(LEFT, raw, key, key, "this runner takes no requirements from an input object")
             elif key not in ("cwl:tool", "$namespaces", "$schemas"):
                 self.rewriter.one_name(made, raw, key)
-                made.put(short(key), self.values.rewritten(raw, key, it), raw.line_of(key))
+                made.put(short(key), self.value(raw, key, it), raw.line_of(key))
         self.folder.document(INPUTS, made)
 
 

@@ -1,97 +1,176 @@
-"""Takes JavaScript out of a step: a step that evaluates comes before it."""
+"""Takes JavaScript out of a step: a step that evaluates comes before it, of a scattered step inside of each of its jobs."""
 
-from typing import TYPE_CHECKING, Dict, List, Optional, Set, Tuple
+from typing import TYPE_CHECKING, Any, Dict, List, Optional, Tuple
 
-from .expressions import Known, is_javascript, mentioned, parameters, safe_parts
-from .fault import TooLong
-from .forms import entry_of, self_known, step, texts_of
-from .marked import Fields, Items, copied, list_of, object_of
-from .names import short, source_name
-from .node import Task, parameter
+from .expressions import is_javascript, parameters
+from .findings import LEFT
+from .flow import Flow, with_null
+from .forms import entry_of, step
+from .javascript_parts import parts_of_any
+from .kinds import are_alike, encoded, item_of, lowered, mentions
+from .marked import Fields, Items, copied, list_of, marked_of, object_of
+from .names import short
+from .plans import Evaluator, tool_of
 
 if TYPE_CHECKING:
     from .javascript import JavaScript
+
+# Where an entry's requirements and scatter stay.
+OUTER = ("requirements", "hints", "scatter", "scatterMethod", "label", "doc")
 
 
 class Step:
     """A step whose own JavaScript is taken out."""
 
-    def __init__(self, raw: Fields, name: str, library: Tuple[str, ...], owner: "JavaScript", plain: Set[str], whole: Tuple[str, Set[str]]) -> None:
-        self.raw, self.name, self.library, self.owner, self.plain, self.whole = raw, name, library, owner, plain, whole
+    def __init__(self, raw: Fields, name: str, library: Tuple[str, ...], owner: "JavaScript", flow: Flow, version: str) -> None:
+        self.raw, self.name, self.library, self.owner, self.flow, self.version = raw, name, library, owner, flow, version
         self.entries = {short(key): it if isinstance(it, Fields) else object_of(raw, **({} if it is None else {"source": it})) for key, it in parameters(raw.get("in"))}
-        self.known = Known(frozenset(name for name, it in self.entries.items() if not self.is_plain(it)), frozenset(), False)
+        scatter = raw.get("scatter")
+        self.scattered = [short(it) for it in (scatter if isinstance(scatter, Items) else [scatter] if scatter else []) if isinstance(it, str)]
+        self.valued = {key: it["valueFrom"] for key, it in self.entries.items() if isinstance(it.get("valueFrom"), str)}
+        self.condition = raw.get("when")
+        # Entries that bring numbers in another form than the process reads them in.
+        self.converted = [key for key, it in self.entries.items() if key not in self.valued and self.is_unlike(key)]
+        self.valued.update({key: "$(self)" for key in self.converted})
 
-    def is_plain(self, entry: Fields) -> bool:
-        """Says whether an entry surely brings no Files: its sources are inputs of the workflow that have none."""
-        sources = entry.get("source")
-        listed = sources if isinstance(sources, Items) else [] if sources is None else [sources]
-        return not isinstance(entry.get("default"), (Fields, Items)) and all(isinstance(it, str) and source_name(it, *self.whole) in self.plain for it in listed)
+    def is_unlike(self, name: str) -> bool:
+        """Says whether an entry brings numbers in another form than the process reads them in. Into Any, which tools may bind as it is, none is led."""
+        target = self.flow.process(self.name)[0].get(name)
+        if target is None or are_alike(self.kind(name), target):
+            return False
+        if mentions(target, ("Any",)):
+            self.owner.findings.add(LEFT, self.entries[name], None, "float", f"a number with a fraction may come to {name}, which is of the type Any")
+            return False
+        return True
 
     def without(self) -> Optional[List[Fields]]:
-        """Returns the step with one before it, or None where it has no JavaScript, or has some that stays."""
-        valued = {name: it["valueFrom"] for name, it in self.entries.items() if isinstance(it.get("valueFrom"), str)}
-        condition = self.raw.get("when")
-        if self.raw.get("scatter") or len(self.entries) < len(parameters(self.raw.get("in"))) or not any(map(is_javascript, [*valued.values(), condition])):
+        """Returns what stands for the step, or None where it has no JavaScript, or has some that stays."""
+        if len(self.entries) < len(parameters(self.raw.get("in"))) or not (self.converted or any(map(self.loads, self.valued)) or any(map(is_javascript, [*self.valued.values(), self.condition]))):
             return None
-        tasks = self.tasks(valued, condition if is_javascript(condition) else None)
-        if tasks is None:
+        if self.is_left():
             return None
-        try:
-            made = [self.evaluation(tasks), self.rest(tasks)]
-        except TooLong:
+        if not self.owner.has_library and any(map(is_javascript, [*self.valued.values(), self.condition])):
             return None
-        for name, text in valued.items():
+        for name, text in self.valued.items():
             if is_javascript(text):
                 self.owner.tell(self.entries[name], "valueFrom")
-        if is_javascript(condition):
+        if is_javascript(self.condition):
             self.owner.tell(self.raw, "when")
-        return made
+        return [self.inner()] if self.scattered else [self.evaluation(), self.rest()]
 
-    def tasks(self, valued: Dict[str, str], condition: Optional[str]) -> Optional[List[Task]]:
-        tasks = []
-        for name, text in valued.items():
-            entry = self.entries[name]
-            has_source = entry.get("source") is not None
-            parts = safe_parts(text, self_known(self.known, name), self.owner.reasons)
-            if parts is None or not has_source and entry.get("default") is not None:
-                return None
-            tasks.append(Task(name, parts, name if has_source else None))
-        if condition is not None:
-            parts = safe_parts(condition, self_known(self.known, None), self.owner.reasons)
-            if parts is None:
-                return None
-            when = "when_"
-            while when in self.entries:
-                when += "_"
-            tasks.append(Task(when, parts, None, last=True))
-        return tasks
+    def is_left(self) -> bool:
+        """Says whether some JavaScript stays, with the reason of each text."""
+        from .in_job import why_other
+
+        left = False
+        for text in [*self.valued.values(), self.condition]:
+            for code in parts_of_any(text) if isinstance(text, str) else []:
+                reason = why_other(code, "\n".join(self.library))
+                if reason:
+                    self.owner.reasons[text] = reason
+                    left = True
+        return left
+
+    def kind(self, name: str) -> Any:
+        """Returns the type of what an entry brings to one job."""
+        kind = self.flow.entry(self.entries[name])
+        return item_of(kind) if name in self.scattered else kind
 
     def before(self) -> str:
         name = f"{self.name}-javascript"
-        while name in self.whole[1]:
+        while name in self.flow.whole[1]:
             name += "_"
         return name
 
-    def evaluation(self, tasks: List[Task]) -> Fields:
-        inputs = [parameter(self.raw, name) for name in self.seen(tasks)]
-        tool = self.owner.tasks_tool(self.raw, inputs, [parameter(self.raw, str(it.to)) for it in tasks], self.library, tasks)
-        made = step(self.raw, self.before(), {}, [str(it.to) for it in tasks], tool)
-        for name in self.seen(tasks):
-            made["in"].add(entry_of(name, self.entries[name], ("valueFrom",)), self.entries[name].line)
+    def when(self) -> str:
+        when = "when_"
+        while when in self.entries:
+            when += "_"
+        return when
+
+    def has_condition(self) -> bool:
+        return is_javascript(self.condition)
+
+    def evaluation(self, by_name: bool = False) -> Fields:
+        """Returns the step that evaluates. Inside of a scattered job its entries come from inputs of their own names."""
+        seen = self.seen()
+        outputs = [{"name": name, "type": with_null(self.flow.target(self.name, name))} for name in self.valued]
+        outputs += [{"name": self.when(), "type": ["null", "Any"]}] if self.has_condition() else []
+        plan: Dict[str, Any] = {
+            "version": self.version,
+            "javascript": self.owner.has_library,
+            "library": list(self.library),
+            "isStep": True,
+            "listing": "deep_listing" if self.version == "v1.0" else "no_listing",
+            "inputs": [{"name": name, "type": with_null(self.kind(name)), **self.loads(name)} for name in seen],
+            "outputs": outputs,
+            "values": [{"name": name, "text": text, "of": name} for name, text in self.valued.items()],
+            **{key: [] for key in ("successCodes", "temporaryFailCodes", "permanentFailCodes")},
+        }
+        if self.has_condition():
+            plan["when"] = {"name": self.when(), "text": self.condition}
+        inputs = [object_of(self.raw, id=it["name"], type=marked_of(self.raw, lowered(it["type"]))) for it in plan["inputs"]]
+        tool: Evaluator = tool_of(self.raw, plan, inputs, self.owner.folder)
+        tool.put("requirements", list_of(self.raw, [object_of(self.raw, of_class="EnvVarRequirement", envDef=list_of(self.raw, []))]))
+        made = step(self.raw, self.before(), {}, [it["name"] for it in outputs], tool)
+        for name in seen:
+            entry = object_of(self.raw, id=name, source=name) if by_name else self.entry(name)
+            made["in"].add(entry, self.entries[name].line)
         return made
 
-    def seen(self, tasks: List[Task]) -> List[str]:
-        """Returns the names of the entries that tasks may see."""
-        names = {*mentioned(self.entries, texts_of(tasks), self.known), *(it.of for it in tasks)}
-        return [it for it in self.entries if it in names]
+    def entry(self, name: str) -> Fields:
+        """Returns an entry without what is evaluated, its default as it is kept between jobs."""
+        it = self.entries[name]
+        made = entry_of(name, it, ("valueFrom", "loadContents", "loadListing"))
+        if it.get("default") is not None:
+            made.put("default", encoded(it["default"], with_null(self.flow.entry(it))), it.line_of("default"))
+        return made
 
-    def rest(self, tasks: List[Task]) -> Fields:
+    def loads(self, name: str) -> Dict[str, Any]:
+        return {key: self.entries[name][key] for key in ("loadContents", "loadListing") if self.entries[name].get(key) is not None}
+
+    def seen(self) -> List[str]:
+        """Returns the names of the entries that the texts may see: all of them where names are made while it runs."""
+        texts = "\n".join([*self.valued.values(), self.condition if isinstance(self.condition, str) else "", *self.library])
+        bare = texts.replace("inputs.", "").replace("inputs['", "").replace('inputs["', "")
+        if "inputs" in bare:
+            return list(self.entries)
+        return [name for name in self.entries if name in self.valued or name in texts]
+
+    def rest(self, by_name: bool = False) -> Fields:
         """Returns the step itself, which takes what was evaluated."""
-        made, evaluated = copied(self.raw), {str(it.to) for it in tasks}
-        kept = [entry_of(name, it) for name, it in self.entries.items() if name not in evaluated]
-        taken = [object_of(self.raw, id=name, source=f"{self.before()}/{name}") for name in sorted(evaluated)]
+        made = copied(self.raw)
+        kept = [object_of(self.raw, id=name, source=name) if by_name else entry_of(name, it) for name, it in self.entries.items() if name not in self.valued]
+        taken = [object_of(self.raw, id=name, source=f"{self.before()}/{name}") for name in sorted([*self.valued, *([self.when()] if self.has_condition() else [])])]
         made.put("id", self.name)
         made.put("in", list_of(self.raw, [*kept, *taken]), self.raw.line_of("in"))
-        if tasks[-1].last:
-            made.put("when", f"$(inputs.{tasks[-1].to})", self.raw.line_of("when"))
+        if self.has_condition():
+            made.put("when", f"$(inputs.{self.when()})", self.raw.line_of("when"))
+        return made
+
+    def inner(self) -> Fields:
+        """Returns the scattered step, each job of which is a workflow: what evaluates, and then the step's process."""
+        raw = self.raw
+        rest = self.rest(by_name=True)
+        for key in OUTER:
+            rest.pop(key, None)
+        out = [short(it if isinstance(it, str) else str(it.get("id"))) for it in raw.get("out") or []]
+        given = self.flow.process(self.name)[1]
+        may_skip = self.condition is not None
+        workflow = object_of(raw, of_class="Workflow")
+        kinds = {name: with_null(self.kind(name)) for name in self.entries}
+        workflow.put("inputs", list_of(raw, [object_of(raw, id=name, type=marked_of(raw, kind)) for name, kind in kinds.items()]))
+        outputs = []
+        for name in out:
+            kind = given.get(name, ["null", "Any"])
+            outputs.append(object_of(raw, id=name, type=marked_of(raw, with_null(kind) if may_skip else kind), outputSource=f"{self.name}/{name}"))
+        workflow.put("outputs", list_of(raw, outputs))
+        workflow.put("steps", list_of(raw, [self.evaluation(by_name=True), rest]))
+        made = raw.like()
+        for key, it in raw.items():
+            if key not in ("when", "in", "run"):
+                made.put(key, it, raw.line_of(key))
+        made.put("id", self.name)
+        made.put("in", list_of(raw, [self.entry(name) for name in self.entries]), raw.line_of("in"))
+        made.put("run", workflow, raw.line_of("run"))
         return made

@@ -6,7 +6,7 @@ from .expressions import SELF, Known, is_javascript, is_plain, mentioned, parame
 from .forms import bare_inputs, normal, outer_inputs, outer_outputs, self_known, step, texts_of
 from .marked import Fields, Items, copied, list_of, object_of
 from .names import short
-from .node import Task, parameter
+from .node import Task, parameter, words
 from .requirements import entries
 
 if TYPE_CHECKING:
@@ -101,8 +101,8 @@ class Tool:
         raw, steps, given = self.raw, [], [short(name) for name, _ in parameters(self.raw.get("inputs"))]
         links = {name: name for name in given}
         if before:
-            seen, outputs = self.seen(before, given), [parameter(raw, str(it.to)) for it in before]
-            tool = self.owner.tasks_tool(raw, bare_inputs(raw, False, seen), outputs, self.library, before)
+            seen, outputs = self.seen(before, given), [words(raw, it.to) for it in before]
+            tool = self.owner.tasks_tool(raw, bare_inputs(raw, False, seen), outputs, self.known, self.library, before)
             steps.append(step(raw, BEFORE, seen, [str(it.to) for it in before], tool))
         command = self.command_of(before, after, places)
         outs = [str(it["id"]) for it in command["outputs"]]
@@ -128,9 +128,10 @@ class Tool:
                 matched.append(parameter(raw, name, default=list_of(raw, [])))
             else:
                 links[name] = f"{COMMAND}/{name}"
-                matched.append(parameter(raw, name, loadContents=binding.get("loadContents") is True))
-        outputs = [parameter(raw, str(it.to), types[str(it.to)]) for it in after]
-        tool = self.owner.tasks_tool(raw, [*inputs, *matched], outputs, self.library, after, tuple(str(it.of) for it in after))
+                files = object_of(raw, type="array", items=list_of(raw, ["File", "Directory"]))
+                matched.append(parameter(raw, name, files, loadContents=binding.get("loadContents") is True))
+        outputs = [parameter(raw, it.to, types[it.to]) for it in after]
+        tool = self.owner.tasks_tool(raw, [*inputs, *matched], outputs, self.known, self.library, after, tuple(str(it.of) for it in after))
         return step(raw, AFTER, links, [str(it.to) for it in after], tool)
 
     def command_of(self, before: List[Task], after: List[Task], places: List[Place]) -> Fields:
@@ -144,7 +145,7 @@ class Tool:
             if globs is not None:
                 found = object_of(raw, type="array", items=list_of(raw, ["File", "Directory"]))
                 outputs.append(parameter(raw, str(task.of), found, outputBinding=object_of(raw, glob=globs)))
-        inputs = [normal(raw, name, it) for name, it in parameters(tool.get("inputs"))] + [parameter(raw, str(it.to)) for it in before]
+        inputs = [normal(raw, name, it) for name, it in parameters(tool.get("inputs"))] + [words(raw, it.to) for it in before]
         for key in ("cwlVersion", "id"):
             tool.pop(key, None)
         tool.put("inputs", list_of(raw, inputs), raw.line_of("inputs"))

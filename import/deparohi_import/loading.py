@@ -17,7 +17,9 @@ MOST_CHARACTERS = 16 << 20
 class Library:
     """The files of one import, each read once, with what they import put in place."""
 
-    def __init__(self) -> None:
+    def __init__(self, outside: bool = True) -> None:
+        # The folder of the document that was asked for first: what is imported lies below it, or below the folder of the file that imports.
+        self.outside, self.top = outside, ""
         self.files: Dict[str, Any] = {}
         self.texts: Dict[str, str] = {}
         self.reading: Dict[str, None] = {}
@@ -30,6 +32,8 @@ class Library:
         path = os.path.abspath(path)
         if path in self.reading:
             raise fault_at(f"{path} imports itself", node, key)
+        if not self.top:
+            self.top = os.path.realpath(os.path.dirname(path))
         if path not in self.files:
             self.room(len(self.files) + len(self.texts), node, key)
             if node is not None and not os.path.isfile(path):
@@ -62,9 +66,13 @@ class Library:
         if not before:
             raise fault_at(f"{key} names {name or 'nothing'}, a part of its own file, and takes another file", node, key)
         try:
-            return path_of(before, node.file)
+            path = path_of(before, node.file)
         except NotAFile as error:
             raise fault_at(str(error), node, key) from None
+        folders = [self.top, os.path.realpath(os.path.dirname(node.file))]
+        if not self.outside and not any(os.path.realpath(path).startswith(it.rstrip("/") + "/") for it in folders):
+            raise fault_at(f"{key} names {name}, outside of the document's folder; --allow-outside takes it", node, key)
+        return path
 
     def placed(self, value: Any) -> Any:
         """Returns the value with what it imports in its place."""

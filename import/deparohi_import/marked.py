@@ -78,3 +78,19 @@ def list_of(node: Any, items: Any) -> Items:
     for it in items:
         made.add(it, getattr(it, "line", None))
     return made
+
+
+def marked_of(node: Any, value: Any) -> Any:
+    """Returns plain data as marked, of the place of a node."""
+    if isinstance(value, (Fields, Items)):
+        return value
+    made: Any = value
+    if isinstance(value, dict):
+        made = Fields(node.file, node.line)
+        for key, it in value.items():
+            made.put(key, marked_of(node, it))
+    elif isinstance(value, list):
+        made = Items(node.file, node.line)
+        for it in value:
+            made.add(marked_of(node, it))
+    return made

@@ -1,17 +1,25 @@
 """Rewrites processes, with the steps of workflows and what these run."""
 
+import json
 from typing import Any, Callable, Dict, NamedTuple, Optional, Set, Tuple
 
-from .findings import IGNORED, LEFT, WRONG, Findings
+from .checking import Checker
+from .choices import Choices
+from .expressions import parameters
+from .findings import IGNORED, LEFT, REWRITTEN, WRONG, Findings
+from .flow import Flow, kinds_of, list_type
+from .in_job import InJob
 from .javascript import JavaScript, Library
+from .kinds import are_alike, encoded
 from .links import lone_picks
-from .marked import Fields, Items, copied
+from .marked import Fields, Items, copied, object_of
 from .names import class_name, short, source_name
-from .node import Evaluator
+from .plans import Evaluator
 from .references import faults, has_expression
 from .requirements import Asked, Requirements, ToolTexts, entries
 from .shell import command_of
-from .types import Types
+from .secondary import patterns_in_place
+from .types import OF_INPUT, OF_LINK, OF_OUTPUT, Types
 from .values import Values
 
 EXPRESSION = "expression in "
@@ -20,28 +28,76 @@ OTHER_CLASSES = {"ExpressionTool": "it is JavaScript", "Operation": "it can't be
 DESCRIBING = ("doc", "label", "intent", "format", "streamable")
 
 
+# What names the software of a tool, and the input that keeps it.
+SOFTWARE = (("DockerRequirement", "dockerPull"), ("DockerRequirement", "dockerImageId"), ("SoftwareRequirement", "packages"))
+NAMED_SOFTWARE = "deparohi_software"
+
+
 class Scope(NamedTuple):
     """What a process has from around it: the requirements carried to its tools, the types that have names, and the expressionLib."""
 
     carried: Dict[str, Asked]
     names: Dict[str, Any]
     library: Optional[Library] = None
+    version: str = "v1.2"
 
 
 class Rewriter:
     """Rewrites the processes of one import. `run_named` gives the name of the written document that a step names."""
 
-    def __init__(self, findings: Findings, requirements: Requirements, values: Values, run_named: Callable[[Fields, str, Scope], str], javascript: JavaScript) -> None:
-        self.javascript = javascript
+    def __init__(self, findings: Findings, requirements: Requirements, values: Values, run_named: Callable[[Fields, str, Scope], str], javascript: JavaScript, choices: Choices = Choices()) -> None:
+        self.javascript, self.choices = javascript, choices
+        # Whether a tool is rewritten to see what is left of it.
+        self.is_trying = self.is_root = False
         self.findings, self.requirements, self.values, self.run_named = findings, requirements, values, run_named
         self.types = Types(findings, {})
 
     def process(self, raw: Fields, scope: Scope) -> Fields:
-        """Returns the process in the forms of v1.2, without its version."""
-        library = self.javascript.library(raw, scope.library)
-        raw = self.javascript.without(raw, kind_of(raw), library, "LoadListingRequirement" not in scope.carried)
-        kind = kind_of(raw)
+        """Returns the process in the forms of v1.2, without its version: for the runner itself, or else as a job of node."""
+        if isinstance(raw, Evaluator):
+            return raw
+        if kind_of(raw) not in ("CommandLineTool", "ExpressionTool") or self.is_trying:
+            return self.plainly(raw, scope)
+        mark, self.is_trying = self.findings.mark(), True
+        made = self.plainly(raw, scope)
+        self.is_trying = False
+        Checker(self.findings).process(made)
+        kinds = {it.kind for it in self.findings.all[mark:]}
+        if LEFT not in kinds or WRONG in kinds or not self.javascript.is_on:
+            return made
+        return self.in_job(raw, scope, mark) or made
+
+    def in_job(self, raw: Fields, scope: Scope, mark: int) -> Optional[Fields]:
+        """Returns the tool that does a process in one job of node, or None where that can't be done, which is found."""
+        found = self.findings.back_to(mark)
         names = {**scope.names, **named_types(raw)}
+        outer, self.types = self.types, Types(self.findings, names)
+        own = self.findings.mark()
+        below = self.requirements.kept(raw, scope.carried, copied)[2]
+        taken = self.findings.back_to(own)
+        job = InJob(raw, self, scope._replace(names=names, library=self.javascript.library(raw, scope.library)), below, self.choices)
+        made = job.made()
+        self.types = outer
+        for it in taken:
+            if it.kind == LEFT:
+                made = None
+                self.findings.put(it)
+        if made is None:
+            for one in job.refusals:
+                self.findings.add(LEFT, one.node, one.key, one.feature, one.words)
+            return None
+        for it in found:
+            self.findings.put(it if it.kind != LEFT else it._replace(kind=REWRITTEN, words="node does it, in the job of the tool itself"))
+        return made
+
+    def plainly(self, raw: Fields, scope: Scope) -> Fields:
+        """Returns the process in the forms of v1.2, without its version, with what the runner refuses found."""
+        if kind_of(raw) == "Workflow":
+            self.is_root = False
+        library = self.javascript.library(raw, scope.library)
+        names = {**scope.names, **named_types(raw)}
+        raw = self.javascript.without(raw, kind_of(raw), library, "LoadListingRequirement" not in scope.carried, names, scope.version)
+        kind = kind_of(raw)
         outer, self.types = self.types, Types(self.findings, names)
         self.types.members = outer.members
         made = raw.like()
@@ -50,12 +106,12 @@ class Rewriter:
             self.findings.add(LEFT, raw, "class", kind, f"this runner has no {kind}: {OTHER_CLASSES[kind]}" + (f" ({reason})" if reason else ""))
             self.copy_rest(made, raw, ())
         elif kind in ("CommandLineTool", "Workflow"):
-            requirements, hints, below = self.requirements.kept(raw, {} if isinstance(raw, Evaluator) else scope.carried, copied)
+            requirements, hints, below = self.requirements.kept(raw, scope.carried, copied)
             self.parameters(made, raw, kind)
             if kind == "CommandLineTool":
                 self.tool(made, raw, below, requirements, hints)
             else:
-                self.workflow(made, raw, Scope(below, names, library))
+                self.workflow(made, raw, Scope(below, names, library, scope.version))
             self.sections(made, raw, requirements, hints)
             self.copy_rest(made, raw, ("requirements", "hints", "cwlVersion", "$namespaces", "$schemas", "$graph"))
         else:
@@ -127,7 +183,7 @@ class Rewriter:
             return value
         fields = value.like()
         for key, it in value.items():
-            one = self.parameter(it, section, kind) if isinstance(it, Fields) else self.types.rewritten(value, key, it)
+            one = self.parameter(it, section, kind) if isinstance(it, Fields) else self.types.rewritten(value, key, it, place(section, kind))
             self.one_name(fields, value, key)
             # An object under a key is the parameter's, and a union stands for its type.
             fields.put(short(key), one if not isinstance(one, Fields) or isinstance(it, Fields) else typed(one), value.line_of(key))
@@ -142,9 +198,10 @@ class Rewriter:
             if key == "id" and isinstance(it, str):
                 it = short(it)
             elif key == "type":
-                it = self.types.rewritten(raw, key, it)
+                it = self.types.rewritten(raw, key, it, place(section, kind))
             elif key == "default":
-                it = self.values.rewritten(raw, key, it)
+                whole = self.types.kind(raw, "type", raw.get("type"))
+                it = encoded(self.values.rewritten(raw, key, it, whole), whole)
             elif key == "secondaryFiles":
                 it = self.secondary(raw, key, it)
             elif key == "loadListing":
@@ -175,6 +232,7 @@ class Rewriter:
             self.findings.add(LEFT, binding, "loadContents", "loadContents of a workflow", "this runner loads contents for tools alone")
 
     def secondary(self, raw: Fields, key: str, value: Any) -> Any:
+        value = patterns_in_place(value)
         listed = value if isinstance(value, Items) else [value]
         for it in listed:
             pattern = it.get("pattern") if isinstance(it, Fields) else it
@@ -197,7 +255,7 @@ class Rewriter:
             return raw
         made = raw.like()
         for key, it in raw.items():
-            if it is not None:
+            if it is not None and (key != "shellQuote" or it is False):
                 made.put(key, copied(it), raw.line_of(key))
         self.no_expression(made, "position", "position")
         self.text(made, "valueFrom", made.get("valueFrom"))
@@ -232,18 +290,41 @@ class Rewriter:
             made.put("arguments", listed, raw.line_of("arguments"))
         if shell:
             command_of(made, raw)
+        self.software(made, asked)
+
+    def software(self, made: Fields, asked: Dict[str, Asked]) -> None:
+        """Gives a tool whose container and software are left to this machine an input of their names, so that they tell jobs apart."""
+        told = {name: asked[name].fields.get(field) for name, field in SOFTWARE if name in asked and asked[name].fields.get(field) is not None}
+        inputs = made.get("inputs")
+        if not told or not isinstance(inputs, (Fields, Items)) or is_named(inputs, NAMED_SOFTWARE):
+            return
+        text = json.dumps(told, sort_keys=True, ensure_ascii=False)
+        one = object_of(made, "inputs", type="string", default=text)
+        if isinstance(inputs, Fields):
+            inputs.put(NAMED_SOFTWARE, one)
+        else:
+            one.put("id", NAMED_SOFTWARE)
+            inputs.add(one)
 
     # ---- workflows
 
     def workflow(self, made: Fields, raw: Fields, scope: Scope) -> None:
         for it in lone_picks(raw):
             self.findings.add(LEFT, it, "pickValue", "pickValue of one link", "this runner takes a value that is no list for a list of one here, and cwltool lets it be")
+        self.unlike_outputs(raw, scope.names)
         steps = raw.get("steps")
         whole = (short(raw["id"]) if isinstance(raw.get("id"), str) else "", step_names(steps))
         if isinstance(made.get("outputs"), (Fields, Items)):
             self.clean_sources(made["outputs"], whole)
         if isinstance(steps, (Fields, Items)):
             made.put("steps", self.steps(steps, scope, whole), raw.line_of("steps"))
+
+    def unlike_outputs(self, raw: Fields, names: Dict[str, Any]) -> None:
+        """Finds outputs whose types read numbers otherwise than they come."""
+        flow = Flow(raw, names, self.javascript.peek)
+        for (name, it), kind in zip(parameters(raw.get("outputs")), kinds_of(raw.get("outputs"), names).values()):
+            if isinstance(it, Fields) and "outputSource" in it and not are_alike(flow.entry(it), kind):
+                self.findings.add(LEFT, it, "type", "float", f"the output {short(name)} may be a text as well as a number, and its source is a number")
 
     def steps(self, steps: Any, scope: Scope, whole: Tuple[str, Set[str]]) -> Any:
         listed = steps.like()
@@ -266,7 +347,7 @@ class Rewriter:
             if key == "id" and isinstance(it, str):
                 it = short(it)
             elif key == "in":
-                it = self.step_inputs(it, whole)
+                it = self.step_inputs(it, whole, self.targets(raw, scope.names))
             elif key == "out":
                 it = self.short_names(it)
             elif key == "scatter":
@@ -276,7 +357,7 @@ class Rewriter:
             made.put(key, it, line)
         self.sections(made, raw, requirements, hints)
         if "run" in raw:
-            made.put("run", self.run(raw, Scope(below, scope.names, self.javascript.library(raw, scope.library))), raw.line_of("run"))
+            made.put("run", self.run(raw, Scope(below, scope.names, self.javascript.library(raw, scope.library), scope.version)), raw.line_of("run"))
         return made
 
     def run(self, raw: Fields, scope: Scope) -> Any:
@@ -299,13 +380,26 @@ class Rewriter:
             listed.add(short(it) if isinstance(it, str) else it, value.line_at(at))
         return listed
 
-    def step_inputs(self, value: Any, whole: Tuple[str, Set[str]]) -> Any:
+    def targets(self, raw: Fields, names: Dict[str, Any]) -> Dict[str, Any]:
+        """Returns the types of what entries with a default lead to: of the process's inputs, in lists where they are scattered."""
+        if not any(isinstance(it, Fields) and "default" in it for _, it in parameters(raw.get("in"))):
+            return {}
+        found = self.javascript.peek(raw, names)
+        kinds = kinds_of(found[0].get("inputs"), found[1]) if found else {}
+        scatter = raw.get("scatter")
+        for it in scatter if isinstance(scatter, Items) else [scatter]:
+            if isinstance(it, str) and short(it) in kinds:
+                kinds[short(it)] = list_type(kinds[short(it)])
+        return kinds
+
+    def step_inputs(self, value: Any, whole: Tuple[str, Set[str]], targets: Dict[str, Any]) -> Any:
         if not isinstance(value, (Fields, Items)):
             return value
         listed = value.like()
         for key, it in enumerate(value) if isinstance(value, Items) else value.items():
             if isinstance(it, Fields):
-                it = self.step_input(it, whole)
+                name = short(str(it.get("id") if isinstance(value, Items) else key))
+                it = self.step_input(it, whole, targets.get(name))
             elif isinstance(value, Fields):
                 it = value.like() if it is None else self.clean(it, whole)
             if isinstance(value, Items):
@@ -315,7 +409,7 @@ class Rewriter:
                 listed.put(short(key), it, value.line_of(key))
         return listed
 
-    def step_input(self, raw: Fields, whole: Tuple[str, Set[str]]) -> Fields:
+    def step_input(self, raw: Fields, whole: Tuple[str, Set[str]], kind: Any) -> Fields:
         made = raw.like()
         for key, it in raw.items():
             line = raw.line_of(key)
@@ -326,7 +420,8 @@ class Rewriter:
             elif key == "source":
                 it = self.clean(it, whole)
             elif key == "default":
-                it = self.values.rewritten(raw, key, it)
+                it = self.values.rewritten(raw, key, it, kind)
+                it = it if kind is None else encoded(it, kind)
             elif key == "valueFrom":
                 self.text(raw, key, it, folders=False, runtime=False)
             elif key == "loadContents" and it is True:
@@ -350,6 +445,15 @@ class Rewriter:
         for at, it in enumerate(value):
             listed.add(source_name(it, *whole) if isinstance(it, str) else it, value.line_at(at))
         return listed
+
+
+def is_named(inputs: Any, name: str) -> bool:
+    return any(short(key) == name for key, _ in parameters(inputs))
+
+
+def place(section: str, kind: str) -> str:
+    """Returns where a type stands."""
+    return OF_LINK if kind == "Workflow" else OF_INPUT if section == "inputs" else OF_OUTPUT
 
 
 def kind_of(raw: Fields) -> Optional[str]:

@@ -4,9 +4,10 @@ import argparse
 import os
 import re
 import sys
-from typing import List, Optional
+from typing import List, Optional, Tuple
 
 from . import runner, yaml_library
+from .choices import ENGINES, Choices
 from .fault import ImportFault
 from .findings import LEFT, WRONG, Findings
 from .folder import INPUTS, Folder
@@ -15,6 +16,9 @@ from .requirements import FORCED
 from .versions import UnknownVersion
 
 UNSUPPORTED, FAILED, USAGE = 33, 1, 3
+# The options, as the command `deparohi` passes them on.
+VALUED = ("--container", "--cores", "--ram", "--environment")
+FLAGS = ("--allow-outside", "--leave-javascript", *FORCED.values())
 # Refusals of documents that are wrong by the standard, as cwl-runner takes them, and not only of what this runner leaves out.
 WRONG_DOCUMENT = re.compile(r"refused: (C1|C4|C8|K\d)\b")
 
@@ -30,60 +34,77 @@ def words_of(arguments: List[str]) -> argparse.Namespace:
     parser.add_argument("inputs", metavar="INPUTS", nargs="?", help="the input object, in YAML or JSON")
     parser.add_argument("-o", "--output", metavar="FOLDER", required=True, help="the folder to write, which is made where it is absent")
     parser.add_argument("--quiet", action="store_true", help="print no findings on standard error; they are in the report")
+    parser.add_argument("--container", choices=ENGINES, help="run tools that ask for a container in one, by this engine")
+    parser.add_argument("--cores", type=int, metavar="N", help="how many processors a tool may use, within what it asks for")
+    parser.add_argument("--ram", type=int, metavar="MB", help="how many megabytes of memory a tool may use, within what it asks for")
+    parser.add_argument("--environment", action="append", default=[], metavar="NAME", help="put this variable, with its value here, into the document; it counts like an input")
+    parser.add_argument("--allow-outside", action="store_true", help="let $import and $include read files outside of the document's folder")
     parser.add_argument("--leave-javascript", action="store_true", help="leave JavaScript also where node, which can evaluate it, is in PATH")
     for name, option in FORCED.items():
         parser.add_argument(option, dest="forced", action="append_const", const=name, default=[], help=f"take {name} for a hint, which the runner ignores")
     return parser.parse_args(arguments)
 
 
+def choices_of(words: argparse.Namespace) -> Choices:
+    variables = tuple((name, os.environ[name].replace("\\", "\\\\").replace("$(", "\\$(").replace("${", "\\${")) for name in words.environment if name in os.environ)
+    return Choices(words.container, words.cores, words.ram, variables, not words.leave_javascript, words.allow_outside)
+
+
 def main(arguments: List[str]) -> int:
+    status, written = made_of(arguments)
+    for it in written:
+        print(it)
+    return status or asked(*written)
+
+
+def made_of(arguments: List[str]) -> Tuple[int, List[str]]:
+    """Imports, and returns the status, and the paths of what was written."""
     for stream in (sys.stdout, sys.stderr):
         # A name of a file need not be UTF-8.
         stream.reconfigure(errors="surrogateescape")  # type: ignore
     try:
         words = words_of(arguments)
     except SystemExit as ended:
-        return USAGE if ended.code else 0
+        # Help ends well, and leaves nothing to do.
+        return USAGE if ended.code else 0, []
     if not yaml_library.NAME:
         print("deparohi-import: no YAML library: install python3-ruamel.yaml or python3-yaml", file=sys.stderr)
-        return USAGE
+        return USAGE, []
     try:
         return imported(words)
     except UnknownVersion as fault:
         print(f"left: {fault}", file=sys.stderr)
-        return UNSUPPORTED
+        return UNSUPPORTED, []
     except ImportFault as fault:
         print(f"wrong: {fault}", file=sys.stderr)
     except RecursionError:
         print(f"wrong: {words.file}: processes or types nest too deep", file=sys.stderr)
     except MemoryError:
         print(f"wrong: {words.file}: there is not enough memory to read it", file=sys.stderr)
-    return FAILED
+    return FAILED, []
 
 
-def imported(words: argparse.Namespace) -> int:
+def imported(words: argparse.Namespace) -> Tuple[int, List[str]]:
     folder = Folder(words.output)
-    one = Import(folder, set(words.forced), evaluates=not words.leave_javascript)
+    one = Import(folder, set(words.forced), choices_of(words))
     name = one.document(words.file)
     if words.inputs is not None:
         one.inputs(words.inputs)
     folder.write(report_of(one.findings, words.file))
-    document = os.path.join(folder.path, name)
-    inputs = os.path.join(folder.path, INPUTS) if words.inputs is not None else None
-    print(document)
-    if inputs:
-        print(inputs)
+    written = [os.path.join(folder.path, name)]
+    if words.inputs is not None:
+        written.append(os.path.join(folder.path, INPUTS))
     if not words.quiet:
         for it in one.findings.all:
             if it.kind in (LEFT, WRONG):
                 print(it.text(), file=sys.stderr)
-    return one.findings.status() or asked(document, inputs)
+    return one.findings.status(), written
 
 
-def asked(document: str, inputs: Optional[str]) -> int:
+def asked(document: str = "", inputs: Optional[str] = None) -> int:
     """Asks `deparohi run --validate` where it is there, and returns how that ended."""
     deparohi = runner.program()
-    if deparohi is None or not runner.validates(deparohi):
+    if not document or deparohi is None or not runner.validates(deparohi):
         return 0
     said = runner.verdict(deparohi, document, inputs)
     if not said.accepted:

@@ -1,4 +1,4 @@
-"""Parameter references, as far as an import has to tell them from JavaScript. The grammar is that of docs/formats.md, "References"."""
+"""Parameter references, as far as an import has to tell them from JavaScript. The grammar is that of docs/reference/codes.md, "References"."""
 
 import re
 from typing import Iterator, Tuple

@@ -5,12 +5,13 @@ whether they change anything; there they are dropped, become hints, or stay requ
 """
 
 import re
-from typing import Any, Callable, Dict, Iterator, List, NamedTuple, Optional, Set
+from typing import Any, Callable, Dict, Iterator, List, NamedTuple, Optional, Set, Tuple
 
+from .choices import Choices
 from .findings import IGNORED, LEFT, REWRITTEN, WRONG, Findings
-from .marked import Fields, Items
+from .marked import Fields, Items, list_of, object_of
 from .names import class_name
-from .references import has_expression
+from .references import BACKSLASH, JAVASCRIPT, faults, has_expression
 from .shell import why_left
 
 # What the runner meets by being what it is.
@@ -68,8 +69,8 @@ def with_class(fields: Fields, name: str, line: Optional[int]) -> Fields:
 class Requirements:
     """Sorts the requirements of processes and steps."""
 
-    def __init__(self, findings: Findings, forced: Set[str]) -> None:
-        self.findings, self.forced = findings, forced
+    def __init__(self, findings: Findings, forced: Set[str], choices: Choices = Choices()) -> None:
+        self.findings, self.forced, self.choices = findings, forced, choices
 
     def kept(self, raw: Fields, carried: Dict[str, Asked], copy: Callable[[Fields], Fields]) -> "tuple[Items, Items, Dict[str, Asked]]":
         """Returns the requirements and hints that stay at a process or step, and what is carried to the tools below."""
@@ -79,9 +80,14 @@ class Requirements:
             self.tell_malformed(raw, section)
             for it in entries(raw.get(section)):
                 name = it["class"]
+                if name == "EnvVarRequirement":
+                    own[name] = Asked(it, section == "hints")
+                    if self.choices.environment or is_work(raw) and sets_by_javascript(it):
+                        continue
                 if name in CARRIED:
                     own[name] = Asked(it, section == "hints")
-                elif name == "SchemaDefRequirement":
+                elif name in ("SchemaDefRequirement", "InlineJavascriptRequirement"):
+                    # Types are written out, and JavaScript was taken out, or is found where it stands.
                     continue
                 elif section == "hints":
                     kept.add(copy(it), it.line)
@@ -125,12 +131,16 @@ class Requirements:
     def at_tool(self, tool: "ToolTexts", asked: Dict[str, Asked], requirements: Items, hints: Items) -> bool:
         """Puts what was carried to a tool among its requirements or hints. Returns whether its command is one for the shell."""
         shell = False
+        self.variables_at(tool, asked.get("EnvVarRequirement"), requirements)
         for name, it in asked.items():
+            if name == "EnvVarRequirement":
+                continue
             why_not = self.changes(name, it, tool)
+            by_container = name == "DockerRequirement" and self.choices.container
             if name == "ShellCommandRequirement" and why_not is None:
                 shell = True
                 self.findings.add(REWRITTEN, it.fields, "class", name, "the shell is asked for by baseCommand, with the same words")
-            elif why_not is None or name in self.forced:
+            elif why_not is None or name in self.forced and not by_container and not stages_files(it.fields):
                 self.tell_moved(name, it, why_not)
                 hints.add(it.fields, it.fields.line)
             else:
@@ -138,6 +148,21 @@ class Requirements:
                 self.findings.add(LEFT, it.fields, "class", name, words if not it.is_hint else f"as a hint: {words}")
                 requirements.add(it.fields, it.fields.line)
         return shell
+
+    def variables_at(self, tool: "ToolTexts", asked: Optional[Asked], requirements: Items) -> None:
+        """Puts variables that are in force at a tool, and those of the user's choice, into its own requirement."""
+        if not self.choices.environment and not (asked and sets_by_javascript(asked.fields)):
+            return
+        found = {name: it for name, it in self.choices.environment}
+        definitions = asked.fields.get("envDef") if asked else None
+        found.update(variables_of(definitions))
+        node = asked.fields if asked else tool.raw
+        listed = [object_of(node, envName=name, envValue=text) for name, text in found.items()]
+        for at, it in enumerate(requirements):
+            if it["class"] == "EnvVarRequirement":
+                requirements[at].put("envDef", list_of(node, listed))
+                return
+        requirements.add(object_of(node, of_class="EnvVarRequirement", envDef=list_of(node, listed)), node.line)
 
     def tell_moved(self, name: str, it: Asked, why_not: Optional[str]) -> None:
         if why_not is not None:
@@ -165,8 +190,40 @@ class Requirements:
             return None if it.is_hint or fields.get("timelimit") == 0 else "this runner has no time limits"
         if name == "NetworkAccess":
             return None
+        if name == "DockerRequirement" and self.choices.container:
+            return f"{self.choices.container} runs it"
         words = {"DockerRequirement": "this runner has no containers", "SoftwareRequirement": "this runner looks for no software"}
         return None if it.is_hint else words[name]
+
+
+def stages_files(it: Fields) -> bool:
+    """Says whether an InitialWorkDirRequirement may put files into the folder: without them a command may end well, and give something else."""
+    if it["class"] != "InitialWorkDirRequirement":
+        return False
+    listing = it.get("listing")
+    return not isinstance(listing, Items) or any(not isinstance(one, Fields) or "class" in one or has_expression(one.get("entry")) for one in listing)
+
+
+def is_work(raw: Fields) -> bool:
+    """Says whether an object is a workflow or a step, whose requirements are for the tools below it."""
+    return "run" in raw or "steps" in raw
+
+
+def sets_by_javascript(it: Fields) -> bool:
+    """Says whether a variable's value is more than a reference."""
+    definitions = it.get("envDef")
+    return any(any(feature in (JAVASCRIPT, BACKSLASH) for feature, _ in faults(str(text), True, True)) for _, text in variables_of(definitions))
+
+
+def variables_of(definitions: Any) -> Iterator[Tuple[str, Any]]:
+    """Yields the variables of envDef with the texts of their values."""
+    if isinstance(definitions, Fields):
+        for name, it in definitions.items():
+            yield name, it.get("envValue") if isinstance(it, Fields) else it
+    elif isinstance(definitions, Items):
+        for it in definitions:
+            if isinstance(it, Fields):
+                yield str(it.get("envName")), it.get("envValue")
 
 
 class ToolTexts:
@@ -174,6 +231,7 @@ class ToolTexts:
 
     def __init__(self, raw: Fields) -> None:
         self.texts: List[str] = []
+        self.raw = raw
         self.shell = why_left(raw)
         self.gather(raw)
 

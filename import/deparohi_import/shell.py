@@ -88,6 +88,7 @@ def marked_arguments(made: Fields, raw: Fields) -> Items:
     arguments = Items(raw.file, raw.line)
     for at, one in enumerate(bindings):
         one.fields.put("position", 3 * at + 1)
+        one.fields.pop("shellQuote", None)
         if one.key[1] == 0:
             arguments.add(one.fields)
         if one.bare:

@@ -1,9 +1,10 @@
 """Rewrites values: locations become URLs, literals become files, and what the runner has no values of is found."""
 
 import os
-from typing import Any, Callable
+from typing import Any
 
 from .findings import LEFT, REWRITTEN, WRONG, Findings
+from .folder import Folder
 from .marked import Fields, Items
 from .names import class_name
 from .places import NotAFile, path_of, url_of
@@ -12,30 +13,32 @@ GREATEST = 2**63
 
 
 class Values:
-    """The values of one import. `make_file` and `make_folder` write what has no place of its own, and return its path."""
+    """The values of one import. Its folder takes what has no place of its own."""
 
-    def __init__(self, findings: Findings, make_file: Callable[[str, str], str], make_folder: Callable[[str, list], str]) -> None:
-        self.findings, self.make_file, self.make_folder = findings, make_file, make_folder
+    def __init__(self, findings: Findings, folder: Folder) -> None:
+        self.findings, self.make_file, self.make_folder, self.folder = findings, folder.file, folder.folder, folder
 
-    def rewritten(self, node: Any, key: Any, value: Any) -> Any:
+    def rewritten(self, node: Any, key: Any, value: Any, kind: Any = None) -> Any:
+        """Returns a value in the forms of the runner. Numbers with a fraction stay where its type, expanded, is known."""
         if isinstance(value, float):
-            self.findings.add(LEFT, node, key, "float", f"this runner has no numbers with a fraction or an exponent: {value}")
+            if kind is None:
+                self.findings.add(LEFT, node, key, "float", f"this runner has no numbers with a fraction or an exponent: {value}")
         elif isinstance(value, int) and not isinstance(value, bool) and not -GREATEST <= value < GREATEST:
             self.findings.add(LEFT, node, key, "large number", "a number is not of 64 bits")
         elif isinstance(value, Items):
             items = value.like()
             for at, it in enumerate(value):
-                items.add(self.rewritten(value, at, it), value.line_at(at))
+                items.add(self.rewritten(value, at, it, kind), value.line_at(at))
             return items
         elif isinstance(value, Fields):
-            kind = class_name(value["class"]) if isinstance(value.get("class"), str) else None
-            return self.file(value, kind) if kind in ("File", "Directory") else self.fields(value)
+            name = class_name(value["class"]) if isinstance(value.get("class"), str) else None
+            return self.file(value, name) if name in ("File", "Directory") else self.fields(value, kind)
         return value
 
-    def fields(self, value: Fields) -> Fields:
+    def fields(self, value: Fields, kind: Any) -> Fields:
         fields = value.like()
         for key, it in value.items():
-            fields.put(key, self.rewritten(value, key, it), value.line_of(key))
+            fields.put(key, self.rewritten(value, key, it, kind), value.line_of(key))
         return fields
 
     def file(self, value: Fields, kind: str) -> Fields:

@@ -5,6 +5,7 @@ import os
 import sys
 import tempfile
 import unittest
+import unittest.mock
 from typing import Any, Dict, List
 
 HERE = os.path.dirname(os.path.dirname(os.path.realpath(__file__)))
@@ -14,6 +15,7 @@ sys.path.insert(0, HERE)
 from deparohi_import.findings import LEFT, WRONG  # noqa: E402
 from deparohi_import.folder import INPUTS, Folder  # noqa: E402
 from deparohi_import.importing import Import  # noqa: E402
+from deparohi_import.process import Rewriter  # noqa: E402
 from deparohi_import.program import report_of  # noqa: E402
 
 TOOL = """cwlVersion: v1.2
@@ -23,12 +25,18 @@ baseCommand: echo
 
 
 class InFolder(unittest.TestCase):
-    """A test with a folder of its own."""
+    """A test with a folder of its own. Without `in_job` no tool is done by node as a whole, so that it shows what is left of it."""
+
+    in_job = True
 
     def setUp(self) -> None:
         self.room = tempfile.TemporaryDirectory()
         self.addCleanup(self.room.cleanup)
         self.path = os.path.realpath(self.room.name)
+        if not self.in_job:
+            patched = unittest.mock.patch.object(Rewriter, "in_job", return_value=None)
+            patched.start()
+            self.addCleanup(patched.stop)
 
     def write(self, name: str, text: str) -> str:
         path = os.path.join(self.path, name)

@@ -1,4 +1,4 @@
-"""docs/what-is-taken.md says with which code the runner refuses what: it does so."""
+"""docs/use/what-is-taken.md says with which code the runner refuses what: it does so."""
 
 import json
 import os
@@ -59,7 +59,7 @@ class Codes(InFolder):
 
     @unittest.skipUnless(program(), "no program deparohi")
     def test_the_codes_are_those_of_the_page(self) -> None:
-        with open(os.path.join(TOP, "docs", "what-is-taken.md"), encoding="utf-8") as it:
+        with open(os.path.join(TOP, "docs", "use", "what-is-taken.md"), encoding="utf-8") as it:
             rows = [line for line in it if line.startswith("| ")]
         for word, code, document, value in ROWS:
             with self.subTest(word, code=code):

@@ -1,4 +1,4 @@
-"""The documents of docs/coming-from-cwltool.md: imported, and run where the program is there. cwltool gave the expected outputs."""
+"""The documents of docs/use/coming-from-cwltool.md: imported, and run where the program is there. cwltool gave the expected outputs."""
 
 import json
 import os

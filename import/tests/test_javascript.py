@@ -13,6 +13,7 @@ from .test_examples import plain
 from .test_program import program
 
 from deparohi_import import node
+from deparohi_import.choices import Choices
 from deparohi_import.expressions import Part, parts_of
 from deparohi_import.fault import ImportFault
 from deparohi_import.findings import REWRITTEN
@@ -76,12 +77,14 @@ class Evaluated(InFolder):
 
     def test_copies_of_a_library_are_bounded(self) -> None:
         library = "x" * 100_000
-        tools = "".join(f"  s{at}: {{in: {{}}, out: [], run: {{class: CommandLineTool, baseCommand: x, inputs: [], outputs: [], arguments: ['$(1 + 1)']}}}}\n" for at in range(200))
+        tools = "".join(f"  s{at}: {{in: {{}}, out: [], run: {{class: CommandLineTool, baseCommand: x, inputs: [], outputs: [], arguments: ['$(1 + {at})']}}}}\n" for at in range(200))
         with self.assertRaises(ImportFault):
             self.imported(HEAD.replace("{}}", f"{{expressionLib: ['{library}']}}}}") + "inputs: []\noutputs: []\nsteps:\n" + tools)
 
 
 class Left(InFolder):
+    in_job = False
+
     def leaves(self, text: str, *wanted: str) -> None:
         self.imported(text)
         self.assertEqual(sorted(wanted), sorted(self.left()))
@@ -111,17 +114,14 @@ class Left(InFolder):
         outer = "class: Workflow\nrequirements: {LoadListingRequirement: {loadListing: no_listing}}\ninputs: {d: Directory}\noutputs: []\nsteps:\n  s:\n    in: {d: d}\n    out: []\n    run:\n"
         self.leaves("cwlVersion: v1.0\n" + outer + "      cwlVersion: v1.0\n" + inner + "\n", "JavaScript 16")
 
-    def test_libraries_that_name_what_is_around_or_are_long(self) -> None:
-        for library in ("function f() { return inputs.f.path; }", "var self = 1;", "x" * 130_000):
+    def test_libraries_that_name_what_is_around(self) -> None:
+        for library in ("function f() { return inputs.f.path; }", "var self = 1;"):
             self.leaves(TOOL + f"requirements: {{InlineJavascriptRequirement: {{expressionLib: ['{library}']}}}}\n" + ENDS + "arguments: ['$(1 + 1)']\n", "JavaScript 7")
-        self.leaves(TOOL + ASKED + ENDS + "arguments: ['$(1 + " + "1" * 130_000 + ")']\n", "JavaScript 7")
 
     def test_places_that_are_not_evaluated(self) -> None:
         self.leaves(TOOL + ASKED + ENDS + "arguments: [{position: '$(1 + 1)', valueFrom: x}]\n", "expression in position 7")
         self.leaves(TOOL + ASKED + "inputs: []\noutputs:\n  o: {type: File, outputBinding: {glob: x, outputEval: '$(self[0] || null)'}}\n", "JavaScript 7")
         self.leaves(TOOL + ASKED + ENDS + "arguments: ['a\\b$(1 + 1)']\n", "JavaScript 7")
-        self.leaves(HEAD + f"inputs: {{a: 'int[]'}}\noutputs: []\nsteps:\n  s: {{in: {{a: a}}, scatter: a, when: '$(inputs.a > 1)', out: [o], run: {RUN}}}\n", "JavaScript 7")
-        self.leaves(HEAD + f"inputs: {{f: File}}\noutputs: []\nsteps:\n  s: {{in: {{f: {{source: f, valueFrom: '$(self || null)'}}}}, out: [o], run: {RUN}}}\n", "JavaScript 7")
 
     def test_javascript_that_is_not_asked_for(self) -> None:
         self.leaves(TOOL + ENDS + "arguments: ['$(1 + 1)']\n", "JavaScript 6")
@@ -129,7 +129,7 @@ class Left(InFolder):
         self.leaves("cwlVersion: v1.2\nclass: ExpressionTool\ninputs: []\noutputs: []\nexpression: '${return {};}'\n", "ExpressionTool 2")
 
     def test_an_option_leaves_it(self) -> None:
-        one = Import(Folder(os.path.join(self.path, "out")), set(), evaluates=False)
+        one = Import(Folder(os.path.join(self.path, "out")), set(), Choices(evaluates=False))
         one.document(self.write("main.cwl", TOOL + ASKED + ENDS + "arguments: ['$(1 + 1)']\n"))
         self.assertEqual(33, one.findings.status())
 

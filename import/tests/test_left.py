@@ -8,6 +8,8 @@ ENDS = "inputs: {x: int}\noutputs: []\n"
 
 
 class Left(InFolder):
+    in_job = False
+
     def leaves(self, text: str, *wanted: str, **how) -> dict:
         made = self.imported(text, **how)
         self.assertEqual(sorted(wanted), sorted(self.left()))
@@ -37,7 +39,7 @@ class Left(InFolder):
         self.leaves("cwlVersion: v1.2\nclass: Operation\ninputs: []\noutputs: []\n", "Operation 2")
 
     def test_types(self) -> None:
-        self.leaves(TOOL + "outputs: []\ninputs:\n  a: float\n  b: double[]\n  c:\n    type:\n      type: record\n      fields: {}\n", "float 6", "float 7", "record 10")
+        self.leaves(TOOL + "outputs: []\ninputs:\n  a: [float, string]\n  b: double[]\n  c:\n    type:\n      type: record\n      fields: {}\n", "float 6", "record 9")
 
     def test_values(self) -> None:
         self.leaves(TOOL + "outputs: []\ninputs: {a: Any, b: Any, f: File}\n", "float 1", "large number 2", "remote file 3", inputs="a: [1.5]\nb: 99999999999999999999\nf: {class: File, location: 'http://example.org/x'}\n")
@@ -67,7 +69,7 @@ class Left(InFolder):
 
     def test_expressions_where_the_runner_takes_none(self) -> None:
         self.leaves(TOOL + "outputs: []\ninputs:\n  a:\n    type: int\n    inputBinding:\n      position: $(self)\n", "expression in position 9")
-        self.leaves(TOOL + "outputs: []\ninputs:\n  a:\n    type: File\n    secondaryFiles: $(self.basename).idx\n", "expression in secondaryFiles 8")
+        self.leaves(TOOL + "outputs: []\ninputs:\n  a:\n    type: File\n    secondaryFiles: $(self.basename + inputs.x).idx\n", "expression in secondaryFiles 8")
 
     def test_fields_that_are_missing_unknown_or_twice_are_wrong(self) -> None:
         self.leaves(TOOL + "inputs: []\n", "outputs missing 1")

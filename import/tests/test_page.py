@@ -1,4 +1,4 @@
-"""docs/coming-from-cwltool.md: its documents are those of examples/, and its commands print what it shows."""
+"""docs/use/coming-from-cwltool.md: its documents are those of examples/, and its commands print what it shows."""
 
 import os
 import re
@@ -24,7 +24,7 @@ echo "== done" >> ../all
 
 
 def blocks(kind: str) -> List[str]:
-    with open(os.path.join(TOP, "docs", "coming-from-cwltool.md"), encoding="utf-8") as it:
+    with open(os.path.join(TOP, "docs", "use", "coming-from-cwltool.md"), encoding="utf-8") as it:
         return re.findall(rf"(?ms)^```{kind}\n(.*?)^```$", it.read())
 
 

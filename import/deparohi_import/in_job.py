@@ -1,0 +1,262 @@
+"""Makes of a tool with what the runner doesn't take the tool that does the same in one job of node.
+
+The plan has the tool as its author wrote it, its types and defaults resolved; what is around it, as requirements, is put into it. What
+can't be done so is found: `refusals` says it, and the tool stays as it is.
+"""
+
+import re
+from typing import TYPE_CHECKING, Any, Dict, Iterator, List, NamedTuple, Optional, Tuple
+
+from .choices import Choices
+from .expressions import is_javascript, parameters
+from .javascript_parts import parts_of_any
+from .kinds import encoded, items_of, lowered
+from .marked import Fields, Items, copied, list_of, marked_of, object_of
+from .names import short
+from .plans import tool_of
+from .references import has_expression
+from .requirements import Asked, entries, variables_of
+from .secondary import all_static, static_patterns
+
+if TYPE_CHECKING:
+    from .process import Rewriter, Scope
+
+COPIED = ("successCodes", "temporaryFailCodes", "permanentFailCodes")
+DOCUMENTING = ("doc", "label", "intent", "format", "streamable", "$namespaces", "$schemas")
+WHOLE_INPUTS = re.compile(r"(?<![\w$.'\"])inputs(?!\w|\s*[.\[:])")
+# What sees the order of an object's names, and what is no code.
+ENUMERATES = re.compile(r"\bin\b|\bObject\b|\bJSON\b|\.\.\.|\bReflect\b|\bforEach\b")
+APART = re.compile(r"'(?:[^'\\\n]|\\.)*'|\"(?:[^\"\\\n]|\\.)*\"|//[^\n]*|/\*.*?\*/", re.S)
+KNOWN_LISTINGS = ("no_listing", "shallow_listing", "deep_listing")
+
+
+class Refusal(NamedTuple):
+    """What can't be done in a job of node: where it stands, its feature, and why."""
+
+    node: Any
+    key: Any
+    feature: str
+    words: str
+
+
+class InJob:
+    """One tool, or ExpressionTool, that node does as a whole."""
+
+    def __init__(self, raw: Fields, rewriter: "Rewriter", scope: "Scope", below: Dict[str, Asked], choices: Choices) -> None:
+        self.raw, self.rewriter, self.scope, self.below, self.choices = raw, rewriter, scope, below, choices
+        self.is_root = rewriter.is_root
+        self.is_expression = raw.get("class", "").endswith("ExpressionTool")
+        self.refusals: List[Refusal] = []
+        self.ignored: List[Fields] = []
+
+    def refuse(self, node: Any, key: Any, feature: str, words: str) -> None:
+        self.refusals.append(Refusal(node, key, feature, words))
+
+    def made(self) -> Optional[Fields]:
+        """Returns the tool, or None where something is refused."""
+        plan, inputs = self.plan(), self.inputs()
+        self.check_texts()
+        if self.refusals:
+            return None
+        made = tool_of(self.raw, plan, inputs, self.rewriter.values.folder)
+        for key in ("id", *COPIED):
+            if key in self.raw:
+                made.put(key, self.raw[key], self.raw.line_of(key))
+        made.put("requirements", self.requirements())
+        if self.ignored:
+            made.put("hints", list_of(self.raw, self.ignored))
+        return made
+
+    # ---- the plan
+
+    def plan(self) -> Dict[str, Any]:
+        raw, library = self.raw, self.scope.library
+        base = raw.get("baseCommand")
+        made: Dict[str, Any] = {
+            "version": self.scope.version,
+            "javascript": library is not None,
+            "library": list(library.texts) if library else [],
+            "isExpression": self.is_expression,
+            "inputs": [self.parameter("inputs", name, it) for name, it in parameters(raw.get("inputs"))],
+            "outputs": [self.parameter("outputs", name, it) for name, it in parameters(raw.get("outputs"))],
+            "baseCommand": list(base) if isinstance(base, Items) else [] if base is None else [base],
+            "arguments": items_of(raw.get("arguments")),
+            "environment": self.environment(),
+        }
+        for key in COPIED:
+            made[key] = items_of(raw.get(key))
+        for key in ("stdin", "stdout", "stderr", "expression"):
+            if raw.get(key) is not None:
+                made[key] = raw[key]
+        self.streams(made)
+        self.asked(made)
+        return made
+
+    def streams(self, made: Dict[str, Any]) -> None:
+        """Names the streams that outputs collect, and the one that an input is."""
+        for it in made["outputs"]:
+            if it["type"] in ("stdout", "stderr") and it["type"] not in made:
+                made[it["type"]] = f"cwl.{it['type']}"
+        for it in made["inputs"]:
+            if it["type"] == "stdin":
+                it["type"] = "File"
+                made["stdin"] = f"$(inputs['{it['name']}'].path)"
+
+    def parameter(self, section: str, name: str, it: Any) -> Dict[str, Any]:
+        """Returns a parameter of the plan, with its type expanded."""
+        types = self.rewriter.types
+        if not isinstance(it, Fields) or isinstance(self.raw.get(section), Fields) and "type" not in it:
+            return {"name": short(name), "type": types.kind(self.raw[section], name, it)}
+        made = {key: value for key, value in it.items() if key not in ("id", "default", *DOCUMENTING) and value is not None}
+        if self.is_root and section == "inputs" and not all_static(it.get("secondaryFiles")):
+            # What stands beside the file is told with it, and the job keeps those that are asked for.
+            made["discovers"] = True
+        return {**made, "name": short(name), "type": types.kind(it, "type", it.get("type"))}
+
+    def environment(self) -> List[Tuple[str, str]]:
+        """Returns the variables in force, those of the user's choice behind the document's."""
+        found: Dict[str, str] = {}
+        asked = self.below.get("EnvVarRequirement")
+        definitions = asked.fields.get("envDef") if asked else None
+        for name, it in variables_of(definitions):
+            found[name] = it
+        return [(name, text) for name, text in self.choices.environment if name not in found] + list(found.items())
+
+    def asked(self, made: Dict[str, Any]) -> None:
+        """Puts the requirements into the plan."""
+        made["listing"] = "deep_listing" if self.scope.version == "v1.0" else "no_listing"
+        for name, it in self.below.items():
+            if name == "ShellCommandRequirement":
+                made["shell"] = True
+            elif name == "ResourceRequirement":
+                made["resources"] = {key: value for key, value in it.fields.items() if key.endswith(("Min", "Max"))}
+            elif name == "InitialWorkDirRequirement":
+                self.working_folder(made, it)
+            elif name == "LoadListingRequirement" and it.fields.get("loadListing") in KNOWN_LISTINGS:
+                made["listing"] = it.fields["loadListing"]
+            elif name == "ToolTimeLimit":
+                made["timelimit"] = it.fields.get("timelimit")
+            elif name == "InplaceUpdateRequirement" and not it.is_hint and it.fields.get("inplaceUpdate") is not False:
+                self.refuse(it.fields, "class", name, "this runner changes no input in its place; --force-inplace-update-as-hint leaves it to you")
+        given = {key: value for key, value in (("cores", self.choices.cores), ("ram", self.choices.ram)) if value is not None}
+        if given:
+            made["given"] = given
+        self.software(made)
+
+    def working_folder(self, made: Dict[str, Any], it: Asked) -> None:
+        listing = it.fields.get("listing")
+        made["workdir"] = listing if isinstance(listing, str) else items_of(listing)
+        for one in listing if isinstance(listing, Items) else []:
+            if isinstance(one, Fields) and "class" in one:
+                self.refuse(one, "class", "File in a listing", "a file that a listing names by its path is not among the job's inputs; give it as the default of an input")
+            elif isinstance(one, Fields) and str(one.get("entryname", "")).startswith("/"):
+                self.refuse(one, "entryname", "absolute entryname", "the entry is outside of the working folder")
+
+    def software(self, made: Dict[str, Any]) -> None:
+        """Puts a container, or its name, into the plan."""
+        forced = self.rewriter.requirements.forced
+        docker, packages = self.below.get("DockerRequirement"), self.below.get("SoftwareRequirement")
+        image = image_of(docker.fields) if docker else None
+        if docker and self.choices.container and image:
+            network = self.below.get("NetworkAccess")
+            allowed = network.fields.get("networkAccess") if network else self.scope.version == "v1.0"
+            made["container"] = {"engine": self.choices.container, "image": image, "network": allowed is True}
+            if has_expression(allowed):
+                self.refuse(network.fields, "networkAccess", "expression in networkAccess", "whether the network may be used is decided before the run")  # type: ignore
+        elif docker and not (docker.is_hint and not self.choices.container) and "DockerRequirement" not in forced:
+            words = "this runner has no containers" if image else "its image has to be built or loaded first"
+            self.refuse(docker.fields, "class", "DockerRequirement", f"{words}; --force-docker-as-hint leaves it to you")
+        elif docker:
+            made["software"] = {"image": image}
+            self.ignored.append(docker.fields)
+        if packages:
+            made.setdefault("software", {})["packages"] = packages.fields.get("packages")
+            self.ignored.append(packages.fields)
+            if not packages.is_hint and "SoftwareRequirement" not in forced:
+                self.refuse(packages.fields, "class", "SoftwareRequirement", "this runner looks for no software; --force-software-as-hint leaves it to you")
+
+    # ---- the tool around the plan
+
+    def inputs(self) -> List[Fields]:
+        made, types, values = [], self.rewriter.types, self.rewriter.values
+        for name, it in parameters(self.raw.get("inputs")):
+            told = self.parameter("inputs", name, it)
+            one = object_of(self.raw, id=short(name), type=marked_of(self.raw, lowered(told["type"])))
+            one.line = getattr(it, "line", one.line)
+            if isinstance(it, Fields) and it.get("default") is not None:
+                default = values.rewritten(it, "default", it["default"], told["type"])
+                one.put("default", encoded(default, told["type"]), it.line_of("default"))
+            if told.get("secondaryFiles") is not None:
+                self.secondary(one, it)
+            made.append(one)
+        return made
+
+    def secondary(self, one: Fields, it: Fields) -> None:
+        """Leaves to the runner the patterns that it can look for; the job checks what expressions ask for."""
+        found = static_patterns(it["secondaryFiles"])
+        if any("/" in str(part.get("pattern")) for part in found):
+            self.refuse(it, "secondaryFiles", "secondaryFiles with /", "this runner looks for secondary files in the folder of the file")
+        if found:
+            one.put("secondaryFiles", marked_of(self.raw, found), it.line_of("secondaryFiles"))
+
+    def requirements(self) -> Items:
+        """Returns the requirements of the tool that runs node: whether it may be used again, and no variables but its own."""
+        kept = [object_of(self.raw, of_class="EnvVarRequirement", envDef=list_of(self.raw, []))]
+        for section in ("hints", "requirements"):
+            kept += [copied(it) for it in entries(self.raw.get(section)) if it["class"] == "WorkReuse"]
+        return list_of(self.raw, kept)
+
+    # ---- what would give another value
+
+    def check_texts(self) -> None:
+        for node, key, text in texts_below(self.raw):
+            if self.scope.library is None and is_javascript(text):
+                self.refuse(node, key, "JavaScript", "this runner takes references to parameters and no JavaScript, and InlineJavascriptRequirement isn't required")
+            if re.search(r"\$\((inputs|self)[^()\s]*\.format\)", text):
+                self.refuse(node, key, "format in a reference", "the format of a file is not kept")
+            for code in parts_of_any(text):
+                reason = why_other(code, "\n".join(self.scope.library.texts) if self.scope.library else "")
+                if reason:
+                    self.refuse(node, key, "JavaScript", reason)
+
+
+def why_other(code: str, library: str = "") -> Optional[str]:
+    """Returns why JavaScript may give another value than in cwltool, or None."""
+    bare = APART.sub(" ", code)
+    if WHOLE_INPUTS.search(bare) and bare.strip("() ") != "inputs" and ENUMERATES.search(bare + APART.sub(" ", library)):
+        return "inputs are named as a whole: their order is another one"
+    if re.search(r"\.\s*format\b(?!\s*\()", bare):
+        return "the format of a file is not kept"
+    if re.search(r"\binputs\b[^;]*\.\s*checksum\b", bare):
+        return "the checksum of an input is not known to cwltool"
+    return None
+
+
+def image_of(fields: Fields) -> Optional[str]:
+    """Returns the image that an engine can fetch or has, or None where it would have to be built or loaded."""
+    for key in ("dockerImageId", "dockerPull"):
+        if isinstance(fields.get(key), str) and (key == "dockerPull" or not any(it in fields for it in ("dockerFile", "dockerLoad", "dockerImport"))):
+            return fields["dockerPull"] if isinstance(fields.get("dockerPull"), str) else fields[key]
+    return None
+
+
+def texts_below(value: Any) -> Iterator[Tuple[Any, Any, str]]:
+    """Yields the texts of a process that may be evaluated, with their places."""
+    if isinstance(value, Fields):
+        for key, it in value.items():
+            if key in ("doc", "label", "default", "hints", "expressionLib", "types"):
+                continue
+            if isinstance(it, str):
+                if has_expression(it):
+                    yield value, key, it
+            else:
+                yield from texts_below(it)
+    elif isinstance(value, Items):
+        for at, it in enumerate(value):
+            if isinstance(it, str):
+                if has_expression(it):
+                    yield value, at, it
+            else:
+                yield from texts_below(it)
+
+

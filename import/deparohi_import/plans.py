@@ -1,0 +1,99 @@
+"""The plan of a job that node does as a whole, and the tool that starts it.
+
+The program of such jobs is in the folder `in_job`; what it is to do is in a plan, a file of its own. Both are inputs with a default, so
+their sums are in the job's key. Their names follow from what they hold, so that a second import gives the same.
+"""
+
+import hashlib
+import json
+import os
+from typing import Any, Dict, List, Tuple
+
+from .folder import Folder
+from .kinds import is_file_list, lowered
+from .marked import Fields, Items, list_of, marked_of, object_of
+
+PARTS = os.path.join(os.path.dirname(os.path.abspath(__file__)), "in_job")
+NODE = ("node", "--disallow-code-generation-from-strings")
+PROGRAM, PLAN = "deparohi_program", "deparohi_plan"
+# The place of the program in the folder. Another number means that jobs are computed again.
+PROGRAM_FILE = "in-job/1/run.js"
+
+
+class Evaluator(Fields):
+    """A tool that runs node. Requirements around it don't reach it: what it has to know of them is in its plan.
+
+    `kinds` has the types of its inputs and outputs, expanded.
+    """
+
+    kinds: Tuple[Dict[str, Any], Dict[str, Any]] = ({}, {})
+
+
+def program_text() -> str:
+    """Returns the program, of its parts in their order."""
+    text = []
+    for name in sorted(os.listdir(PARTS)):
+        if name.endswith(".js"):
+            with open(os.path.join(PARTS, name), encoding="utf-8") as it:
+                text.append(it.read())
+    return "".join(text)
+
+
+def write_plan(folder: Folder, plan: Dict[str, Any]) -> str:
+    """Writes a plan and the program. Returns the location of the plan."""
+    text = json.dumps(plan, sort_keys=True, ensure_ascii=False, indent=1) + "\n"
+    name = hashlib.sha1(text.encode("utf-8", "surrogatepass")).hexdigest()[:20]
+    folder.extra(PROGRAM_FILE, program_text)
+    return folder.extra(f"in-job/{name}/plan.json", lambda: text)
+
+
+def told_apart(inputs: List[Dict[str, Any]]) -> List[str]:
+    """Returns the names of the lists of files whose paths are words, since their JSON could be too long for one; none where JSON has to tell the rest."""
+    lists = [it["name"] for it in inputs if is_file_list(it["type"])]
+    rest = [it for it in inputs if it["name"] not in lists]
+    return lists if lists and not any(is_ambiguous(it["type"]) for it in rest) else []
+
+
+def is_ambiguous(kind: Any) -> bool:
+    """Says whether a text of a value doesn't tell whether the value is a text."""
+    members = [it for it in (kind if isinstance(kind, list) else [kind]) if it != "null"]
+    texts = [it for it in members if it in ("string", "Any") or isinstance(it, dict) and it.get("type") == "enum"]
+    others = [it for it in members if it not in texts]
+    return "Any" in members or bool(texts and others) or any(it in ("float", "double") for it in others) and len(others) > 1
+
+
+def reference(name: str) -> str:
+    return f"$(inputs['{name}'])"
+
+
+def words_of(node: Fields, inputs: List[Dict[str, Any]], lists: List[str]) -> Tuple[Items, Dict[str, Fields]]:
+    """Returns the arguments that tell the inputs, and the bindings that tell which of these aren't null."""
+    if not lists:
+        return list_of(node, [object_of(node, position=2, valueFrom="=$(inputs)")]), {}
+    words, bindings = Items(node.file, node.line), {}
+    for it in inputs:
+        name = it["name"]
+        bindings[name] = object_of(node, position=2, prefix=f"+{name}", valueFrom="yes")
+        entry = object_of(node, position=3, prefix=f"@{name}", valueFrom=reference(name)) if name in lists else object_of(node, position=3, valueFrom=f"={name}={reference(name)}")
+        words.add(entry, node.line)
+    return words, bindings
+
+
+def tool_of(node: Fields, plan: Dict[str, Any], inputs: List[Fields], folder: Folder) -> Evaluator:
+    """Returns the tool that does a plan, with these inputs, which have their types and defaults already."""
+    plan["lists"] = told_apart(plan["inputs"])
+    words, bindings = words_of(node, plan["inputs"], plan["lists"])
+    for it in inputs:
+        if it["id"] in bindings:
+            it.put("inputBinding", bindings[it["id"]])
+    made = Evaluator(node.file, node.line)
+    made.kinds = {it["name"]: it["type"] for it in plan["inputs"]}, {it["name"]: it["type"] for it in plan["outputs"]}
+    made.put("class", "CommandLineTool", node.line_of("class"))
+    made.put("baseCommand", list_of(node, NODE))
+    files = [(PROGRAM, PROGRAM_FILE, 0), (PLAN, write_plan(folder, plan), 1)]
+    own = [object_of(node, id=name, type="File", default=object_of(node, of_class="File", location=at), inputBinding=object_of(node, position=position)) for name, at, position in files]
+    made.put("inputs", list_of(node, [*own, *inputs]), node.line_of("inputs"))
+    outputs = [object_of(node, id=it["name"], type=marked_of(node, lowered(it["type"]))) for it in plan["outputs"]]
+    made.put("outputs", list_of(node, outputs), node.line_of("outputs"))
+    made.put("arguments", words)
+    return made
