@@ -1,7 +1,6 @@
 -- How deep values nest that stand one after another.
 use Rattle.std.proofs.Common.{◌≡◌, ℕ, suc, ◌+◌, ◌<◌, ◌≤◌, false, leb, nat_lt, nat_le, List, [], ◌∷◌, ◌++◌, map, length, get_or, take, drop, refl, sym, ap, subst, ◌∙◌, arith}
 use Rattle.std.proofs.lemmas.List.{map-append, take_more}
-use Rattle.std.proofs.Math.Dec.{leb-suc-suc}
 use Rattle.std.proofs.lemmas.Bool.{leb-false, lt-leb}
 use Rattle.cwl_value.specs.declared.value.Value.{Value}
 use Rattle.collected_outputs.specs.Readable.{greatest, level_of, level_if_any, nesting}
@@ -32,7 +31,3 @@ module _ {X : Type 0} (f : X → ℕ) where
 pub two_levels : (vs : List Value) (k : ℕ) → (vs ≡ [] → ⊥) → k ≤ 1 → nat_lt 1 k ≡ nat_le (suc (level_if_any (map nesting vs))) k
 two_levels [] k some few = absurd (some refl)
 two_levels (v ∷ vs) k some few = lt-leb 2 k (omega arith) ∙ sym (lt-leb (suc (level_of (map nesting (v ∷ vs)))) k (omega arith))
-
--- a level more, of as many more
-pub one_level : (ns : List ℕ) (k : ℕ) → leb (greatest ns) k ≡ leb (level_of ns) (suc k)
-one_level ns k = sym (leb-suc-suc (greatest ns) k)

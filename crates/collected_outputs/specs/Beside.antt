@@ -1,9 +1,10 @@
 -- The files beside an output's files (CWL v1.2, "CommandOutputParameter": secondaryFiles).
-use Rattle.std.specs.Prelude.{Bool, false, not, ◌||◌, ◌&&◌, if◌then◌else◌, List, [], ◌∷◌, ◌++◌, map, codes, is_some, bytes_eq, Ok, Err}
+use Rattle.std.specs.Prelude.{Bool, false, ◌||◌, ◌&&◌, if◌then◌else◌, List, [], ◌∷◌, ◌++◌, map, is_some, bytes_eq, Ok, Err}
 use Rattle.std.specs.Option.{option_map_or, option_to_list}
 use Rattle.std.specs.List.{list_any, before_last}
 use Rattle.plain_data.specs.ByName.{value_at}
 use Rattle.cwl_process.specs.declared.tool.SecondaryFile.{SecondaryFile}
+use Rattle.cwl_value.specs.Reading.{is_name}
 use Rattle.cwl_value.specs.Secondary.{has_name}
 use Rattle.cwl_value.specs.declared.place.Place.{Place}
 use Rattle.cwl_value.specs.declared.place.Place.TheVariants.{Nowhere, Url, Path, Made}
@@ -23,13 +24,9 @@ use Rattle.collected_outputs.specs.declared.fault.CollectFault.TheVariants.{Seco
 abbrev pub beside : Name → Name → Name
 beside primary name = (if list_any is_slash primary then before_last is_slash primary ++ 47 ∷ name else name)
 
--- neither empty nor `.` nor `..`
-abbrev pub may_name : Name → Bool
-may_name name = not (bytes_eq name [] || bytes_eq name (codes ".") || bytes_eq name (codes ".."))
-
--- there is a file of that name beside the primary one
+-- there is a file of that name beside the primary one: a text with a `/` is no name
 abbrev pub is_there : Listing → Name → Name → Bool
-is_there listing primary name = may_name name && is_some (value_at (beside primary name) listing)
+is_there listing primary name = is_name name && is_some (value_at (beside primary name) listing)
 
 -- the primary file, or one beside it, has this name
 abbrev pub stands : Name → FileVal → Bool

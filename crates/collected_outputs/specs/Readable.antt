@@ -1,10 +1,12 @@
--- Which output objects can be read back from their JSON: no fields have the class of a File or Directory, and nothing nests too deep.
+-- Which output objects can be read back from their JSON: no fields have the class of a File or Directory, the object's own among them, and
+-- nothing nests too deep.
 use Rattle.std.specs.Prelude.{ℕ, Bool, false, not, suc, max, ◌||◌, ◌&&◌, nat_le, List, [], ◌∷◌, map, codes, bytes_eq}
 use Rattle.std.specs.Option.{option_map_or}
 use Rattle.std.specs.List.{list_any}
-use Rattle.plain_data.specs.ByName.{value_at, map_values}
+use Rattle.plain_data.specs.ByName.{value_at}
 use Rattle.cwl_value.specs.Reading.{greatest_depth}
 use Rattle.cwl_value.specs.declared.value.Value.{Value, fold-Value}
+use Rattle.cwl_value.specs.declared.value.Value as value
 use Rattle.cwl_value.specs.declared.value.Value.TheOpen.{Value-F, FileVal-F, DirVal-F}
 use Rattle.cwl_value.specs.declared.value.FileVal.{FileVal, fold-FileVal}
 use Rattle.cwl_value.specs.declared.value.DirVal.{DirVal, fold-DirVal}
@@ -88,6 +90,6 @@ file_nesting = fold-FileVal ℕ ℕ ℕ nesting_value nesting_dir nesting_file
 abbrev pub dir_nesting : DirVal → ℕ
 dir_nesting = fold-DirVal ℕ ℕ ℕ nesting_value nesting_dir nesting_file
 
--- the object itself is a level
+-- the object is itself such fields: it has no class, and is a level
 abbrev pub is_readable : List (Name × Value) → Bool
-is_readable values = not (list_any (λ e. has_class e.1) values) && nat_le (level_of (map (λ e. e.1) (map_values nesting values))) greatest_depth
+is_readable values = not (has_class (value.Fields values)) && nat_le (nesting (value.Fields values)) greatest_depth

@@ -2,6 +2,7 @@
 ghost use Rattle.std.specs.Prelude.{◌≡◌, map};
 ghost use Rattle.std.specs.List.{list_any};
 ghost use Rattle.plain_data.specs.ByName.{map_values};
+ghost use Rattle.cwl_value.specs.declared.value.Value as value;
 ghost use Rattle.collected_outputs.specs.Readable as spec;
 
 use cwl_value::{DirVal, FileVal, Value};
@@ -16,7 +17,7 @@ fn has_class(value: &Value) -> bool
         Value::FileVal(file) => file_has_class(file),
         Value::DirVal(dir) => dir_has_class(dir),
         Value::List(items) => items_have_class(items.as_items()),
-        Value::Fields(fields) => is_classed(fields) || fields_have_class(fields),
+        Value::Fields(fields) => object_has_class(fields),
         _ => false,
     }
 }
@@ -50,9 +51,16 @@ fn items_have_class(items: &Items<Value>) -> bool
     false
 }
 
-/// Checks whether fields somewhere in the values have the class of a File or Directory.
+/// Checks whether the fields, or fields somewhere in them, have the class of a File or Directory.
 #[cycle(classes)]
-pub(crate) fn fields_have_class(fields: &Keyed<Value>) -> bool
+pub(crate) fn object_has_class(fields: &Keyed<Value>) -> bool
+    ensures { result ≡ spec.has_class (value.Fields fields.now) }
+{
+    is_classed(fields) || fields_have_class(fields)
+}
+
+#[cycle(classes)]
+fn fields_have_class(fields: &Keyed<Value>) -> bool
     ensures { result ≡ list_any (λ e. e.1.1) (map_values spec.seen fields.now) }
 {
     for field in fields.as_slice() {

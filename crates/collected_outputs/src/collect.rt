@@ -15,13 +15,13 @@ ghost use Rattle.collected_outputs.specs.inner.Written.{GathersNone};
 
 use crate::by_type::value_by_type;
 use crate::checked::checked;
-use crate::classes::fields_have_class;
+use crate::classes::object_has_class;
 use crate::contents::load_all;
 use crate::evaluation::{Speaks, runtime_of, value_in};
 use crate::fault::{CollectError, CollectFault, Stop};
 use crate::listing::{Entry, listing_of};
 use crate::matches::matched_names;
-use crate::nesting::{MOST_NESTING, fields_within};
+use crate::nesting::{MOST_NESTING, object_within};
 use crate::object::OUTPUT_OBJECT;
 use crate::patterns::{read_patterns, texts_of};
 use crate::secondary::with_secondary;
@@ -135,7 +135,7 @@ fn readable_outputs(
 fn is_readable(outputs: &Keyed<Value>) -> bool
     ensures { result ≡ is_readable outputs.now }
 {
-    !fields_have_class(outputs) && fields_within(outputs, MOST_NESTING - 1)
+    !object_has_class(outputs) && object_within(outputs, MOST_NESTING)
 }
 
 fn outputs_of(alloc: Global, tool: &Tool, folder: Folder<'_>) -> Result<Keyed<Value>, CollectError>

@@ -26,7 +26,7 @@ pub enum CollectFault {
     TooMany,
     /// G4: a file whose contents are asked for is too long.
     TooLong,
-    /// G5: the value doesn't fit the type.
+    /// G5: the value doesn't fit the type, or the output object can't be read back.
     NotTyped,
     /// G6: `cwl.output.json` is no output object.
     BadOutputObject,
@@ -92,12 +92,19 @@ impl fmt::Display for OutputFault {
     fn fmt<W: fmt::Write>(&self, f: &mut fmt::Formatter<W>) -> fmt::Result {
         let fault = self.fault;
         match &self.output {
-            None => fault.fmt(f),
+            None => write_whole(f, fault),
             Some(output) => {
                 let name = output.as_str();
                 write!(f, "output `{name}`: {fault}")
             }
         }
+    }
+}
+
+fn write_whole<W: fmt::Write>(f: &mut fmt::Formatter<W>, fault: CollectFault) -> fmt::Result {
+    match fault {
+        CollectFault::NotTyped => f.write_str("the output object can't be read back from its JSON"),
+        _ => write!(f, "{fault}"),
     }
 }
 

@@ -1,6 +1,7 @@
 //! How deep the JSON of values nests.
 ghost use Rattle.std.specs.Prelude.{◌≡◌, nat_le, map};
 ghost use Rattle.plain_data.specs.ByName.{map_values};
+ghost use Rattle.cwl_value.specs.declared.value.Value as value;
 ghost use Rattle.collected_outputs.specs.Readable as spec;
 
 use cwl_value::{DirVal, FileVal, Value};
@@ -18,7 +19,7 @@ fn nests_within(value: &Value, levels: usize) -> bool
         Value::FileVal(file) => file_within(file, levels),
         Value::DirVal(dir) => dir_within(dir, levels),
         Value::List(items) => levels > 0 && items_within(items.as_items(), levels - 1),
-        Value::Fields(fields) => levels > 0 && fields_within(fields, levels - 1),
+        Value::Fields(fields) => object_within(fields, levels),
         _ => true,
     }
 }
@@ -55,9 +56,16 @@ fn items_within(items: &Items<Value>, levels: usize) -> bool
     true
 }
 
-/// Checks that the JSON of each of the values nests at most this many levels deep.
+/// Checks that the JSON of the object of these fields nests at most this many levels deep.
 #[cycle(nesting)]
-pub(crate) fn fields_within(fields: &Keyed<Value>, levels: usize) -> bool
+pub(crate) fn object_within(fields: &Keyed<Value>, levels: usize) -> bool
+    ensures { result ≡ nat_le (spec.nesting (value.Fields fields.now)) levels }
+{
+    levels > 0 && fields_within(fields, levels - 1)
+}
+
+#[cycle(nesting)]
+fn fields_within(fields: &Keyed<Value>, levels: usize) -> bool
     ensures { result ≡ nat_le (spec.greatest (map (λ e. e.1) (map_values spec.nesting fields.now)))
         levels }
 {

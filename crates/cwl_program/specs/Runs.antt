@@ -11,7 +11,7 @@ use Rattle.run_rules.specs.declared.outcome.Report.{Report}
 use Rattle.run_rules.specs.declared.outcome.RunFault.{RunFault}
 use Rattle.run_rules.specs.declared.setting.Options.{Options}
 use Rattle.run_rules.specs.Recorded.{Line}
-use Rattle.workflow_engine.specs.Blame.{IsHostsFault}
+use Rattle.workflow_engine.specs.Blame.{BlamesRecord, IsHostsFault}
 use Rattle.workflow_engine.specs.Gains.{RunsOn}
 use Rattle.process_machine.specs.declared.trouble.Hindrance.{Hindrance}
 use Rattle.run_facts.specs.Holding.{can_hold_files}
@@ -30,10 +30,11 @@ use Rattle.end_words.specs.declared.given.Given.{Given}
 use Rattle.end_words.specs.declared.given.Places.{Places}
 
 -- the log of a host, and that of a record of which nothing was asked before, gained a run of this process on these inputs, where a fault is
--- the host's only if a call of it failed so, and the program ends as that run; the record's log has these lines then
+-- the host's only if a call of it failed so, and the record's, as a note of it, only if its log has it, and the program ends as that run; the
+-- record's log has these lines then
 pub data IsRanOver (process : Process) (inputs : Fields) (options : Options) (lines : List Line) : Exit → Type 0 where
   ran : (before after : List Entry) (result : Result Report RunFault) → RunsOn before after [] lines process inputs options result →
-      IfErr result (IsHostsFault before after) → IsRanOver process inputs options lines (run_exit after result)
+      IfErr result (IsHostsFault before after) → BlamesRecord [] lines result → IsRanOver process inputs options lines (run_exit after result)
 
 -- with some lines of the record
 abbrev pub IsRan : (process : Process) (inputs : Fields) (options : Options) → Exit → Type 0

@@ -8,6 +8,7 @@ mod HeldRow
 mod KeyOrder
 mod KeyTest
 mod KeptRows
+mod KeysHeld
 mod KeyedRows
 mod Looked
 mod Made

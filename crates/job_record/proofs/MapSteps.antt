@@ -105,7 +105,7 @@ module _ {S : Type 0} (g : Ghosts S) (old new : Held S) where
   put_is_map row (Err (Store e)) h it = undone_stands (state g old) (state g new) it (fails_whole _ _ false put_text (put_params row) e h)
   put_is_map row (Err OutOfMemory) h it = same_stands it h
 
-  listed_same : (all : List Columns) → IsRecord (state g old) → Shown list_text [] (state g old) (state g new) all → IsUnchanged (state g old) (state g new)
+  pub listed_same : (all : List Columns) → IsRecord (state g old) → Shown list_text [] (state g old) (state g new) all → IsUnchanged (state g old) (state g new)
   listed_same all it h = shown_same list_text [] (state g old) (state g new) (list_is_plain (state g old) (state g new) it) all h
 
   pub list_is_map : (result : Result (List Row) RecordFault) → Lists g old new result → IsRecord (state g old) → ListsIn (state g old) (state g new) result

@@ -143,7 +143,7 @@ module _ {S : Type 0} (g : Ghosts S) (old new : Held S) (law : (s : S) (trees : 
 
   -- ---- the calls that only read
 
-  reads_safe : (sql : List ℕ) (params : Columns) → (IsRecord (state g old) → Stands (state g old) (state g new)) → (IsRecord (state g old) → IsPlain (understood (state g old).now.schema sql))
+  pub reads_safe : (sql : List ℕ) (params : Columns) → (IsRecord (state g old) → Stands (state g old) (state g new)) → (IsRecord (state g old) → IsPlain (understood (state g old).now.schema sql))
       → RunsOpen (state g old) (state g new) → HasCleanDisk (state g new) → Survives (state g old) (state g new) (CommitsShowing sql params (state g old)) → ReadsSafely (state g old) (state g new)
   reads_safe sql params stands plain runs clean survives map refused safe =
       stays_safe (state g old) (state g new) settled map refused safe stands (was_open_at (state g old) (state g new) runs)

@@ -43,6 +43,16 @@ AreRowsOf [] [] = Unit {0}
 AreRowsOf (c ∷ cs) (row ∷ rows) = IsRowOf c row × AreRowsOf cs rows
 AreRowsOf _ _ = ⊥
 
+-- the keys that the columns begin with
+abbrev pub AreKeysOf : List Columns → List (List ℕ) → Type 0
+AreKeysOf [] [] = Unit {0}
+AreKeysOf (c ∷ cs) (key ∷ keys) = IsText (column c 0) key × AreKeysOf cs keys
+AreKeysOf _ _ = ⊥
+
+-- they begin with no text in UTF-8
+abbrev pub HasNoKey : Columns → Type 0
+HasNoKey c = 0 < length c → (key : List ℕ) → ¬ IsText (column c 0) key
+
 -- Out of memory, in the record or in the store, or else R1 for this cause.
 abbrev pub Misreads : Type 0 → RecordFault → Type 0
 Misreads cause fault = (fault ≡ OutOfMemory) ⊎ ((fault ≡ Store (SqliteFailure code.OutOfMemory)) ⊎ ((fault ≡ NotARecord) × cause))

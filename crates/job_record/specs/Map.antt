@@ -1,5 +1,5 @@
 -- The record as a finite map from key to the columns of its row, and what each command makes of the map.
-use Rattle.std.specs.Prelude.{◌≡◌, ℕ, ℤ, pos, Bool, false, if◌then◌else◌, List, ◌∷◌, [], ◌++◌, take, drop, find, Option, Some, None, option_map, Result, Ok, Err, IsTrue, bytes_eq}
+use Rattle.std.specs.Prelude.{◌≡◌, ℕ, ℤ, pos, Bool, false, if◌then◌else◌, List, ◌∷◌, [], ◌++◌, take, drop, find, Option, Some, None, option_map, Result, Ok, Err, IsTrue, IsUtf8, bytes_eq}
 use Rattle.std.specs.declared.cmp.Ordering.{Ordering}
 use Rattle.std.specs.declared.cmp.Ordering.TheVariants.{Equal}
 use Rattle.std.specs.Ordering.{nat_cmp}
@@ -104,3 +104,10 @@ ListsIn old new (Ok rows) =
     × IsSorted by_key rows × IsUnchanged old new × IsRecord new
 ListsIn old new (Err NotARecord) = (key : List ℕ) × (c : Columns) × (held old key ≡ Some c) × IsUnread c × IsUnchanged old new × IsRecord new
 ListsIn old new (Err _) = Stands old new
+
+-- `keys` gives the keys of the map, and no others, whatever else their columns hold, or one of them is no text in UTF-8, and changes nothing
+abbrev pub KeysIn : State → State → Result (List (List ℕ)) RecordFault → Type 0
+KeysIn old new (Ok keys) =
+    ((key : List ℕ) → Has keys key → (c : Columns) × (held old key ≡ Some c)) × ((key : List ℕ) (c : Columns) → held old key ≡ Some c → Has keys key) × IsUnchanged old new × IsRecord new
+KeysIn old new (Err NotARecord) = (key : List ℕ) × (c : Columns) × (held old key ≡ Some c) × (¬ IsUtf8 key) × IsUnchanged old new × IsRecord new
+KeysIn old new (Err _) = Stands old new

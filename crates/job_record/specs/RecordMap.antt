@@ -11,7 +11,7 @@ use Rattle.job_rows.specs.declared.row.Row.{Row}
 use Rattle.job_record.specs.declared.fault.RecordFault.{RecordFault}
 use Rattle.job_record.specs.declared.fault.RecordFault.TheVariants.{NotARecord, WrongVersion, NoRow, Store, OutOfMemory}
 use Rattle.job_record.specs.Statements.{find_text, list_text, put_text, key_params, put_params}
-use Rattle.job_record.specs.Columns.{IsRowOf, IsUnread, AreRowsOf}
+use Rattle.job_record.specs.Columns.{IsRowOf, IsUnread, AreRowsOf, AreKeysOf, HasNoKey}
 
 -- a column was too large for the memory that is left
 abbrev pub LacksMemory : Error → Type 0
@@ -77,3 +77,13 @@ module _ {S : Type 0} (g : Ghosts S) (old new : Held S) where
   Lists (Err NoRow) = ⊥
   Lists (Err (Store e)) = FailsToQuery list_text [] (state g old) (state g new) e ⊎ (LacksMemory e × (all : List Columns) × ShowsAll all)
   Lists (Err OutOfMemory) = (all : List Columns) × ShowsAll all
+
+  -- ---- keys: what `list` shows, of which only the keys are read
+
+  abbrev pub ListsKeys : Result (List (List ℕ)) RecordFault → Type 0
+  ListsKeys (Ok keys) = (all : List Columns) × ShowsAll all × AreKeysOf all keys
+  ListsKeys (Err NotARecord) = (all : List Columns) × ShowsAll all × Any HasNoKey all
+  ListsKeys (Err WrongVersion) = ⊥
+  ListsKeys (Err NoRow) = ⊥
+  ListsKeys (Err (Store e)) = FailsToQuery list_text [] (state g old) (state g new) e ⊎ (LacksMemory e × (all : List Columns) × ShowsAll all)
+  ListsKeys (Err OutOfMemory) = (all : List Columns) × ShowsAll all

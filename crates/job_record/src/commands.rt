@@ -8,8 +8,8 @@ ghost use Rattle.job_rows.specs.Log.{entries_of};
 ghost use Rattle.job_record.specs.Statements.{find_text, list_text, put_text, key_params, put_params};
 ghost use Rattle.job_rows.specs.Storable.{IsKept};
 ghost use Rattle.job_record.specs.Texts.{ReadsBack};
-ghost use Rattle.job_record.specs.Columns.{IsRowOf, IsUnread, AreRowsOf, Misreads};
-ghost use Rattle.job_record.specs.RecordMap.{Finds, Puts, Lists, changed};
+ghost use Rattle.job_record.specs.Columns.{IsRowOf, IsUnread, AreRowsOf, AreKeysOf, HasNoKey, Misreads};
+ghost use Rattle.job_record.specs.RecordMap.{Finds, Puts, Lists, ListsKeys, changed};
 ghost use Rattle.job_record.specs.inner.Crash.{RunsOpen, ChangesOpen};
 
 use crate::fault::RecordFault;
@@ -135,4 +135,33 @@ fn read_row(alloc: Global, columns: &Columns) -> Result<Row, RecordFault>
     ensures err { IfErr result (Misreads (IsUnread columns.now)) }
 {
     row_of(alloc, tables::stored_in(columns)?)
+}
+
+/// The keys of all rows, also of those that do not read.
+pub fn all_keys<S: Alter>(
+    alloc: Global,
+    conn: &mut Connection<S>,
+) -> Result<Items<Text>, RecordFault>
+    ensures lists { HasCleanDisk (state S.Store conn.new)
+        → ListsKeys S.Store conn.old conn.new result }
+    ensures survives { Survives (state S.Store conn.old) (state S.Store conn.new)
+        (CommitsShowing list_text [] (state S.Store conn.old)) }
+    ensures open { HasCleanDisk (state S.Store conn.new)
+        → RunsOpen (state S.Store conn.old) (state S.Store conn.new) }
+{
+    match tables::list(conn) {
+        Ok(columns) => read_keys(alloc, columns.as_slice()),
+        Err(error) => Err(RecordFault::Store(error)),
+    }
+}
+
+fn read_keys(alloc: Global, all: &[Columns]) -> Result<Items<Text>, RecordFault>
+    ensures ok { IfOk result (AreKeysOf all.now) }
+    ensures err { IfErr result (Misreads (Any HasNoKey all.now)) }
+{
+    let mut keys = Vec::new(alloc);
+    for columns in all {
+        keys.push(tables::key_in(columns)?)?;
+    }
+    Ok(Items::from_vec(keys))
 }

@@ -3,8 +3,8 @@ ghost use Rattle.sqlite.specs.State.{HasCleanDisk, KeepsCommit, Survives, Commit
 ghost use Rattle.sqlite.specs.Held.{state};
 ghost use Rattle.job_record.specs.Statements.{find_text, list_text, put_text, drop_archive_text, forget_text, key_params, put_params};
 ghost use Rattle.job_record.specs.declared.fault.RecordFault.TheVariants.{NoRow};
-ghost use Rattle.job_record.specs.RecordMap.{Finds, Puts, Changes, Lists, AnswersOpen};
-ghost use Rattle.job_record.specs.Map.{IsRecord, FindsIn, PutsIn, DropsIn, ForgetsIn, ListsIn};
+ghost use Rattle.job_record.specs.RecordMap.{Finds, Puts, Changes, Lists, ListsKeys, AnswersOpen};
+ghost use Rattle.job_record.specs.Map.{IsRecord, FindsIn, PutsIn, DropsIn, ForgetsIn, ListsIn, KeysIn};
 ghost use Rattle.job_record.specs.Log.{Logs};
 ghost use Rattle.job_record.specs.Rows.{OpensWithRows};
 ghost use Rattle.job_record.specs.Texts.{ReadsBack};
@@ -13,12 +13,12 @@ ghost use Rattle.job_record.specs.Opening.{Opens};
 ghost use Rattle.job_record.specs.OpenMap.{OpensAs, RefusesAs, CrashesAs};
 ghost use Rattle.job_record.specs.Crash.{sets, unarchives, forgets, ChangesSafely, ReadsSafely, OpensSafely, RefusesSafely};
 
-use crate::commands::{change_of, look_up, note, read_all, room, set};
+use crate::commands::{all_keys, change_of, look_up, note, read_all, room, set};
 use crate::fault::{RecordFault, told_of};
 use crate::making::open_tables;
 use crate::tables;
 use job_rows::{Command, Entry, Row};
-use plain_data::Items;
+use plain_data::{Items, Text};
 use sqlite::{Alter, Connection};
 use std::alloc::Global;
 
@@ -239,5 +239,26 @@ impl<S: Alter> JobRecord<S> {
         ensures log { self.new.log ≡ self.old.log }
     {
         read_all(self.alloc, &mut self.conn)
+    }
+
+    /// The keys of all rows, in the order of their bytes, also of rows that do not read.
+    ///
+    /// # Errors
+    ///
+    /// R1 where a key is no text in UTF-8; R4; want of memory.
+    #[tactic(auto, using(crate::proofs::KeysHeld::keys_is_map))]
+    pub fn keys(&mut self) -> Result<Items<Text>, RecordFault>
+        ensures lists { HasCleanDisk (state S.Store self.new.conn)
+            → ListsKeys S.Store self.old.conn self.new.conn result }
+        ensures map { HasCleanDisk (state S.Store self.new.conn)
+            → IsRecord (state S.Store self.old.conn)
+            → KeysIn (state S.Store self.old.conn) (state S.Store self.new.conn) result }
+        ensures survives { Survives (state S.Store self.old.conn) (state S.Store self.new.conn)
+            (CommitsShowing list_text [] (state S.Store self.old.conn)) }
+        ensures safe { HasCleanDisk (state S.Store self.new.conn)
+            → ReadsSafely (state S.Store self.old.conn) (state S.Store self.new.conn) }
+        ensures log { self.new.log ≡ self.old.log }
+    {
+        all_keys(self.alloc, &mut self.conn)
     }
 }

@@ -10,7 +10,7 @@ ghost use Rattle.sqlite.specs.Held.{state};
 ghost use Rattle.sqlite.specs.Values.{bound};
 ghost use Rattle.job_record.specs.Statements.{version_text, find_text, list_text, put_text, drop_archive_text, forget_text, key_params};
 ghost use Rattle.job_record.specs.Texts.{AreUtf8};
-ghost use Rattle.job_record.specs.Columns.{columns_of, IsText, AreColumnsOf, Misreads, misread_as};
+ghost use Rattle.job_record.specs.Columns.{columns_of, IsText, AreColumnsOf, HasNoKey, Misreads, misread_as};
 ghost use Rattle.job_record.specs.inner.Crash.{RunsOpen, ChangesOpen};
 
 use crate::fault::RecordFault;
@@ -218,6 +218,14 @@ pub fn stored_in(columns: &Columns) -> Result<Stored, RecordFault>
         cost: natural_at(columns, 3)?,
         archived: flag_at(columns, 4)?,
     })
+}
+
+/// The key that the columns begin with.
+pub fn key_in(columns: &Columns) -> Result<Text, RecordFault>
+    ensures ok { IfOk result (IsText (column columns.now 0)) }
+    ensures err { IfErr result (Misreads (HasNoKey columns.now)) }
+{
+    text_at(columns, 0)
 }
 
 fn text_at(columns: &Columns, at: usize) -> Result<Text, RecordFault>

@@ -2,9 +2,8 @@
 use Rattle.std.proofs.Common.{◌≡◌, Bool, true, false, true≢false, not, ◌||◌, ◌&&◌, List, [], ◌∷◌, ◌++◌, map, Option, Some, None, is_some, Ok, Err, IfOk, Result, refl, sym, ap, subst, ◌∙◌, append-nil}
 use Rattle.std.specs.Prelude.{bytes_eq, if◌then◌else◌}
 use Rattle.std.specs.Cmp.Lexicographic.{nat_list_eq_equiv}
-use Rattle.std.specs.List.{All, AllByRecursion, list_all, list_any, before_last}
+use Rattle.std.specs.List.{AllByRecursion, list_all, list_any, before_last}
 use Rattle.std.specs.Option.{IfSome, option_map_or, option_to_list}
-use Rattle.std.proofs.lemmas.List.Elements.{All-head, All-tail}
 use Rattle.plain_data.specs.ByName.{IsByName, value_at}
 use Rattle.cwl_process.specs.declared.tool.OutputBinding.{OutputBinding}
 use Rattle.cwl_process.specs.declared.tool.OutputType.{OutputType}
@@ -14,6 +13,7 @@ use Rattle.cwl_process.specs.declared.tool.ToolOutput.{ToolOutput}
 use Rattle.cwl_types.specs.declared.types.MemberType.{MemberType}
 use Rattle.cwl_types.specs.declared.types.MemberType as member
 use Rattle.cwl_types.specs.declared.types.PlainType.TheVariants as plain
+use Rattle.cwl_value.specs.Reading.{is_name}
 use Rattle.cwl_value.specs.Secondary.{fit_beside, is_secondary, is_new, are_distinct, has_name, name_of}
 use Rattle.cwl_value.specs.declared.place.Place.{Place}
 use Rattle.cwl_value.specs.declared.place.Place.TheVariants.{Nowhere, Url, Path, Made}
@@ -28,7 +28,7 @@ use Rattle.param_refs.specs.declared.fault.RefFault.{RefFault}
 use Rattle.param_refs.specs.declared.template.Part.{Part}
 use Rattle.staging.proofs.Greedy.{both, both_first, both_second}
 use Rattle.type_check.specs.Fits.{fits}
-use Rattle.collected_outputs.specs.Beside.{beside, may_name, is_there, stands, with_beside, added, added_at, file_beside, level_beside, one_beside, list_beside, all_beside}
+use Rattle.collected_outputs.specs.Beside.{beside, is_there, stands, with_beside, added, added_at, file_beside, level_beside, one_beside, list_beside, all_beside}
 use Rattle.collected_outputs.specs.ByType.{is_array, sole_value, value_by_type}
 use Rattle.collected_outputs.specs.Contents.{Heads, contents_of, with_contents, file_loaded, level_loaded, loaded, all_loaded}
 use Rattle.collected_outputs.specs.Gives.{Gives, and_map, and_then, all_given}
@@ -40,7 +40,7 @@ use Rattle.collected_outputs.specs.Values.{is_slash, basename_of, value_under, v
 use Rattle.collected_outputs.specs.declared.fault.CollectFault.TheVariants.{NoMatch, SecondaryAbsent}
 use Rattle.job_reuse.proofs.Folder.{ArePaths, under, as_list, of_names, called_under}
 use Rattle.job_reuse.proofs.Good.{IsGood, AreGood, AreGoodFields, FileIs, FileStands, GoodFile, AtLevel, level, of_file, append}
-use Rattle.job_reuse.proofs.Paths.{basename_unslashed, basename_alone, basename_inside, secondary_unslashed}
+use Rattle.job_reuse.proofs.Paths.{unslashed, basename_alone, basename_inside}
 use Rattle.job_reuse.proofs.Referring.{template_good}
 
 -- ---- all that are given
@@ -162,9 +162,6 @@ fit_pushed o own vs w fit is called apart none =
 
 -- ---- the files that outputs declare beside theirs
 
-abbrev pub ArePatterns : List SecondaryFile → Type 0
-ArePatterns files = All (λ (file : SecondaryFile). list_any is_slash file.pattern ≡ false) files
-
 beside_called : (primary name : Name) → list_any is_slash name ≡ false → basename_of (beside primary name) ≡ name
 beside_called primary name none = by (list_any is_slash primary) where
   by : (b : Bool) → basename_of (if b then before_last is_slash primary ++ 47 ∷ name else name) ≡ name
@@ -195,73 +192,75 @@ module _ (listing : Listing) (paths : ArePaths listing) (order : IsByName listin
       let is : now ≡ out-FileVal f = ap (λ (vs : List Value). record (out-FileVal f) { secondary = vs }) same in
       subst (GoodFile listing) (sym (out-roll-FileVal now ∙ is)) good
 
-  one_added : (f : FileVal) (primary : Name) (required : Bool) (name : Name) → (out-FileVal f).place ≡ Url primary → list_any is_slash name ≡ false → F f → IfOk (added listing f required primary name) F
-  one_added f primary required name at none good = by (is_there listing primary name) (stands name f) required refl refl where
+  one_added : (f : FileVal) (primary : Name) (required : Bool) (name : Name) → (out-FileVal f).place ≡ Url primary → F f → IfOk (added listing f required primary name) F
+  one_added f primary required name at good = by (is_there listing primary name) (stands name f) required refl refl where
     path : Name
     path = beside primary name
 
-    more : (o : Option Value) → IfSome o (IsGood listing) → IfSome o (λ w. (is_secondary w ≡ true) × (name_of w ≡ Some (basename_of path))) → stands name f ≡ false → F (with_beside f (option_to_list o))
-    more None one is apart = nothing_more f good
-    more (Some w) one is apart = pushed f primary at good name w one is.0 (is.1 ∙ ap Some (beside_called primary name none)) apart
+    more : list_any is_slash name ≡ false → (o : Option Value) → IfSome o (IsGood listing) → IfSome o (λ w. (is_secondary w ≡ true) × (name_of w ≡ Some (basename_of path))) → stands name f ≡ false → F (with_beside f (option_to_list o))
+    more none None one is apart = nothing_more f good
+    more none (Some w) one is apart = pushed f primary at good name w one is.0 (is.1 ∙ ap Some (beside_called primary name none)) apart
 
     by : (there stood needed : Bool) → is_there listing primary name ≡ there → stands name f ≡ stood
         → IfOk (if there then Ok (if stood then f else with_beside f (option_to_list (value_under listing path))) else (if needed then Err SecondaryAbsent else Ok f)) F
     by true true needed is apart = good
-    by true false needed is apart = more (value_under listing path) (under listing paths order path) (called_under listing paths order path (both_second (may_name name) (is_some (value_at path listing)) is)) apart
+    by true false needed is apart =
+        more (unslashed name (both_first (is_name name) (is_some (value_at path listing)) is))
+        (value_under listing path) (under listing paths order path) (called_under listing paths order path (both_second (is_name name) (is_some (value_at path listing)) is)) apart
     by false stood true is apart = tt
     by false stood false is apart = good
 
-  at_place : (f : FileVal) (declared : SecondaryFile) (p : Place) → (out-FileVal f).place ≡ p → list_any is_slash declared.pattern ≡ false → F f → IfOk (added_at listing f declared p) F
-  at_place f declared Nowhere at none good = good
-  at_place f declared (Url primary) at none good = one_added f primary declared.required (secondary_name declared.pattern (basename_of primary)) at (secondary_unslashed declared.pattern (basename_of primary) none (basename_unslashed primary)) good
-  at_place f declared (Path path) at none good = good
-  at_place f declared (Made job name) at none good = good
+  at_place : (f : FileVal) (declared : SecondaryFile) (p : Place) → (out-FileVal f).place ≡ p → F f → IfOk (added_at listing f declared p) F
+  at_place f declared Nowhere at good = good
+  at_place f declared (Url primary) at good = one_added f primary declared.required (secondary_name declared.pattern (basename_of primary)) at good
+  at_place f declared (Path path) at good = good
+  at_place f declared (Made job name) at good = good
 
   then_more : (r : Gives FileVal) (next : FileVal → Gives FileVal) → IfOk r F → ((f : FileVal) → F f → IfOk (next f) F) → IfOk (and_then r next) F
   then_more (Ok f) next good on = on f good
   then_more (Err fault) next good on = tt
 
-  file_good : (declared : List SecondaryFile) (f : FileVal) → ArePatterns declared → F f → IfOk (file_beside listing declared f) F
-  file_good [] f none good = good
-  file_good (one ∷ more) f none good =
+  file_good : (declared : List SecondaryFile) (f : FileVal) → F f → IfOk (file_beside listing declared f) F
+  file_good [] f good = good
+  file_good (one ∷ more) f good =
       then_more (added_at listing f one (out-FileVal f).place) (file_beside listing more)
-      (at_place f one (out-FileVal f).place refl (All-head (λ (file : SecondaryFile). list_any is_slash file.pattern ≡ false) one more none) good)
-      (λ g. file_good more g (All-tail (λ (file : SecondaryFile). list_any is_slash file.pattern ≡ false) one more none))
+      (at_place f one (out-FileVal f).place refl good)
+      (file_good more)
 
   as_value : (r : Gives FileVal) → IfOk r F → IfOk (and_map value.FileVal r) (IsGood listing)
   as_value (Ok f) good = of_file listing f good
   as_value (Err fault) good = tt
 
-  beside_level : (declared : List SecondaryFile) → ArePatterns declared → (v : Value) (x : Value-F Value DirVal FileVal) → IsGood listing v → AtLevel listing x → IfOk (level_beside listing declared v x) (IsGood listing)
-  beside_level declared none v Value-F.Null good at = good
-  beside_level declared none v (Value-F.Bool b) good at = good
-  beside_level declared none v (Value-F.Whole n) good at = good
-  beside_level declared none v (Value-F.Text s) good at = good
-  beside_level declared none v (Value-F.FileVal f) good at = as_value (file_beside listing declared f) (file_good declared f none at)
-  beside_level declared none v (Value-F.DirVal d) good at = good
-  beside_level declared none v (Value-F.List vs) good at = good
-  beside_level declared none v (Value-F.Fields es) good at = good
+  beside_level : (declared : List SecondaryFile) (v : Value) (x : Value-F Value DirVal FileVal) → IsGood listing v → AtLevel listing x → IfOk (level_beside listing declared v x) (IsGood listing)
+  beside_level declared v Value-F.Null good at = good
+  beside_level declared v (Value-F.Bool b) good at = good
+  beside_level declared v (Value-F.Whole n) good at = good
+  beside_level declared v (Value-F.Text s) good at = good
+  beside_level declared v (Value-F.FileVal f) good at = as_value (file_beside listing declared f) (file_good declared f at)
+  beside_level declared v (Value-F.DirVal d) good at = good
+  beside_level declared v (Value-F.List vs) good at = good
+  beside_level declared v (Value-F.Fields es) good at = good
 
-  one_good : (declared : List SecondaryFile) → ArePatterns declared → (v : Value) → IsGood listing v → IfOk (one_beside listing declared v) (IsGood listing)
-  one_good declared none v good = beside_level declared none v (out-Value v) good (level listing v good)
+  one_good : (declared : List SecondaryFile) (v : Value) → IsGood listing v → IfOk (one_beside listing declared v) (IsGood listing)
+  one_good declared v good = beside_level declared v (out-Value v) good (level listing v good)
 
   as_list_value : (r : Gives (List Value)) → IfOk r (AreGood listing) → IfOk (and_map value.List r) (IsGood listing)
   as_list_value (Ok vs) good = IsGood.list vs good
   as_list_value (Err fault) good = tt
 
-  list_level : (declared : List SecondaryFile) → ArePatterns declared → (v : Value) (x : Value-F Value DirVal FileVal) → IsGood listing v → AtLevel listing x → IfOk (list_beside listing declared v x) (IsGood listing)
-  list_level declared none v Value-F.Null good at = one_good declared none v good
-  list_level declared none v (Value-F.Bool b) good at = one_good declared none v good
-  list_level declared none v (Value-F.Whole n) good at = one_good declared none v good
-  list_level declared none v (Value-F.Text s) good at = one_good declared none v good
-  list_level declared none v (Value-F.FileVal f) good at = one_good declared none v good
-  list_level declared none v (Value-F.DirVal d) good at = one_good declared none v good
-  list_level declared none v (Value-F.List vs) good at =
-      as_list_value (all_given (map (one_beside listing declared) vs)) (all_good listing (one_beside listing declared) vs (each_good listing (one_beside listing declared) (one_good declared none) vs at))
-  list_level declared none v (Value-F.Fields es) good at = one_good declared none v good
+  list_level : (declared : List SecondaryFile) (v : Value) (x : Value-F Value DirVal FileVal) → IsGood listing v → AtLevel listing x → IfOk (list_beside listing declared v x) (IsGood listing)
+  list_level declared v Value-F.Null good at = one_good declared v good
+  list_level declared v (Value-F.Bool b) good at = one_good declared v good
+  list_level declared v (Value-F.Whole n) good at = one_good declared v good
+  list_level declared v (Value-F.Text s) good at = one_good declared v good
+  list_level declared v (Value-F.FileVal f) good at = one_good declared v good
+  list_level declared v (Value-F.DirVal d) good at = one_good declared v good
+  list_level declared v (Value-F.List vs) good at =
+      as_list_value (all_given (map (one_beside listing declared) vs)) (all_good listing (one_beside listing declared) vs (each_good listing (one_beside listing declared) (one_good declared) vs at))
+  list_level declared v (Value-F.Fields es) good at = one_good declared v good
 
-  all_beside_good : (declared : List SecondaryFile) → ArePatterns declared → (v : Value) → IsGood listing v → IfOk (all_beside listing declared v) (IsGood listing)
-  all_beside_good declared none v good = list_level declared none v (out-Value v) good (level listing v good)
+  all_beside_good : (declared : List SecondaryFile) (v : Value) → IsGood listing v → IfOk (all_beside listing declared v) (IsGood listing)
+  all_beside_good declared v good = list_level declared v (out-Value v) good (level listing v good)
 
 -- ---- the value of an output, before it is checked
 
@@ -302,8 +301,8 @@ module _ (left : Left) (paths : ArePaths left.listing) (order : IsByName left.li
   of_kind Stderr binding names = of_stream left.stderr
   of_kind (Members members) binding names = of_binding members binding names
 
-  pub bound_good : (output : ToolOutput) (names : List Name) → ArePatterns output.secondary_files → IfOk (value_beside left output names) G
-  bound_good output names none = by (unchecked left output.kind output.binding names) (of_kind output.kind output.binding names) where
+  pub bound_good : (output : ToolOutput) (names : List Name) → IfOk (value_beside left output names) G
+  bound_good output names = by (unchecked left output.kind output.binding names) (of_kind output.kind output.binding names) where
     by : (r : Gives Value) → IfOk r G → IfOk (and_then r (all_beside left.listing output.secondary_files)) G
-    by (Ok v) good = all_beside_good left.listing paths order output.secondary_files none v good
+    by (Ok v) good = all_beside_good left.listing paths order output.secondary_files v good
     by (Err fault) good = tt

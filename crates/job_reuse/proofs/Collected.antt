@@ -1,9 +1,9 @@
 -- What is collected of a job is settled, and such as a record keeps.
-use Rattle.std.proofs.Common.{◌≡◌, ℕ, Bool, true, false, true≢false, not, ◌||◌, List, [], ◌∷◌, ◌++◌, map, codes, pos, Option, Some, None, Result, Ok, Err, IfOk, option_map, refl, sym, ap, subst, ◌∙◌, Ordering, Less, Equal, Greater}
+use Rattle.std.proofs.Common.{◌≡◌, Bool, true, false, true≢false, not, List, [], ◌∷◌, map, codes, pos, Option, Some, None, Result, Ok, Err, IfOk, option_map, refl, sym, ap, subst, ◌∙◌, Ordering, Less, Equal, Greater}
 use Rattle.std.specs.Prelude.{if◌then◌else◌, nat_le, unwrap_or}
 use Rattle.std.specs.Option.{IfSome, option_map_or}
 use Rattle.std.specs.Ordering.{match_ordering}
-use Rattle.std.specs.List.{All, AllByRecursion, list_any}
+use Rattle.std.specs.List.{All, AllByRecursion}
 use Rattle.std.specs.Map.{values_of}
 use Rattle.std.proofs.lemmas.List.Elements.{All-nil, All-cons, All-head, All-tail}
 use Rattle.std.proofs.lemmas.Map.Views.{All-values-insert_entry}
@@ -29,30 +29,24 @@ use Rattle.collected_outputs.specs.Listing.{Listing, entry_of, listing_of}
 use Rattle.collected_outputs.specs.Matched.{Name}
 use Rattle.collected_outputs.specs.Object.{Named, object_of, written}
 use Rattle.collected_outputs.specs.Outputs.{Left, AreOutputs, HasValue, checked, output_value, value_beside}
-use Rattle.collected_outputs.specs.Readable.{Seen, seen, has_class, is_readable, level_of, nesting}
+use Rattle.collected_outputs.specs.Readable.{has_class, is_readable, nesting}
 use Rattle.collected_outputs.specs.Throughout.{FileTest, DirTest, all_places}
 use Rattle.collected_outputs.specs.declared.fault.CollectFault.{CollectFault}
 use Rattle.collected_outputs.specs.declared.fault.CollectFault.TheVariants.{NotTyped, NameOutside}
 use Rattle.collected_outputs.proofs.Throughout.{file_pass, dir_pass, list_passes, fields_pass, file_value, dir_value, file_level, dir_level}
-use Rattle.job_rows.specs.Storable.{IsStorable, IsKept}
-use Rattle.job_reuse.specs.Form.{AreInForm}
-use Rattle.job_reuse.specs.Left.{IsPath, is_elsewhere, IsLeftBy, ArePatternsOfNames, AreUnclassed}
-use Rattle.job_reuse.proofs.Bound.{ArePatterns, bound_good}
+use Rattle.job_rows.specs.Storable.{IsKept}
+use Rattle.job_reuse.specs.Form.{IsInForm, AreInForm}
+use Rattle.job_reuse.specs.Left.{IsPath, is_elsewhere, IsLeftBy}
+use Rattle.job_reuse.proofs.Bound.{bound_good}
 use Rattle.job_reuse.proofs.Folder.{ArePaths}
 use Rattle.job_reuse.proofs.Good.{IsGood, AreGood, AreGoodFields, FileIs, DirIs}
-use Rattle.job_reuse.proofs.Nesting.{outputs_nest}
+use Rattle.job_reuse.proofs.Nesting.{nests_as_json}
 use Rattle.job_reuse.proofs.Settled.{IsSettled, AreSettledFields, settled}
-use Rattle.job_reuse.proofs.Storable.{neither, fields_storable, unclassed}
+use Rattle.job_reuse.proofs.Storable.{storable}
 use Rattle.job_reuse.proofs.Written.{written_good}
 use Rattle.job_reuse.proofs.Entries.{Entry}
 
 -- ---- what was found, and what was given
-
-apart : {X : Type 0} (P : X → Type 0) (xs ys : List X) → All P (xs ++ ys) → All P xs × All P ys
-apart P [] ys all = (All-nil P, all)
-apart P (x ∷ xs) ys all =
-    let rest = apart P xs ys (All-tail P x (xs ++ ys) all) in
-    (All-cons P x xs (All-head P x (xs ++ ys) all) rest.0, rest.1)
 
 abbrev HasPath : Name × Entry → Type 0
 HasPath e = IsPath e.0
@@ -134,9 +128,6 @@ module _ (listing : Listing) where
       AreGoodFields.one_field e.0 e.1 es (induction elsewhere_cases e.1 (All-head (λ (v : Value). all_places is_elsewhere v ≡ true) e.1 (values_of es) all))
       (inputs_good es (All-tail (λ (v : Value). all_places is_elsewhere v ≡ true) e.1 (values_of es) all))
 
-abbrev HavePatterns : Name × ToolOutput → Type 0
-HavePatterns output = ArePatterns output.1.secondary_files
-
 -- ---- each output is settled
 
 module _ (found : List Found) (left : Left) (is_left : IsLeftBy found left) where
@@ -169,10 +160,10 @@ module _ (found : List Found) (left : Left) (is_left : IsLeftBy found left) wher
   then_checked kind (Ok v) good = of_checked kind v good
   then_checked kind (Err fault) good = tt
 
-  of_value : (output : ToolOutput) (v : Value) → ArePatterns output.secondary_files → HasValue left output (Ok v) → S v
-  of_value output v patterns has = subst (λ (r : Gives Value). IfOk r S) (sym has.value) (by has.names) where
+  of_value : (output : ToolOutput) (v : Value) → HasValue left output (Ok v) → S v
+  of_value output v has = subst (λ (r : Gives Value). IfOk r S) (sym has.value) (by has.names) where
     by : (names : Gives (List Name)) → IfOk (and_then names (output_value left output)) S
-    by (Ok names) = then_checked output.kind (value_beside left output names) (bound_good left paths order given spoken output names patterns)
+    by (Ok names) = then_checked output.kind (value_beside left output names) (bound_good left paths order given spoken output names)
     by (Err fault) = tt
 
   abbrev All_settled : Named → Type 0
@@ -181,12 +172,10 @@ module _ (found : List Found) (left : Left) (is_left : IsLeftBy found left) wher
   one_more : (id : Name) (v : Value) (values : Named) → All_settled values → S v → All_settled (with_value id v values)
   one_more id v values before now = All-values-insert_entry name_cmp id v S values before now
 
-  of_outputs : (outputs : List (Name × ToolOutput)) (r : Result Named (Name × CollectFault)) → ArePatternsOfNames outputs → AreOutputs left outputs r → IfOk r All_settled
-  of_outputs _ _ patterns AreOutputs.none = All-nil S
-  of_outputs _ _ patterns (AreOutputs.one_more outputs values output v h has) =
-      let parts = apart HavePatterns outputs (output ∷ []) patterns in
-      one_more output.0 v values (of_outputs outputs (Ok values) parts.0 h) (of_value output.1 v (All-head HavePatterns output [] parts.1) has)
-  of_outputs _ _ patterns (AreOutputs.refused outputs rest values output fault h has) = tt
+  of_outputs : (outputs : List (Name × ToolOutput)) (r : Result Named (Name × CollectFault)) → AreOutputs left outputs r → IfOk r All_settled
+  of_outputs _ _ AreOutputs.none = All-nil S
+  of_outputs _ _ (AreOutputs.one_more outputs values output v h has) = one_more output.0 v values (of_outputs outputs (Ok values) h) (of_value output.1 v has)
+  of_outputs _ _ (AreOutputs.refused outputs rest values output fault h has) = tt
 
   -- by the object
 
@@ -205,10 +194,10 @@ module _ (found : List Found) (left : Left) (is_left : IsLeftBy found left) wher
   of_file outputs e (Ok object) is = of_object e object is outputs [] (All-nil S)
   of_file outputs e (Err fault) is = tt
 
-  of_gathered : (outputs : List (Name × ToolOutput)) (gathered : Collected) → ArePatternsOfNames outputs → AreGathered left outputs gathered → IfOk gathered All_settled
-  of_gathered outputs _ patterns (AreGathered.bound values none h) = of_outputs outputs (Ok values) patterns h
-  of_gathered outputs _ patterns (AreGathered.unbound id fault none h) = tt
-  of_gathered outputs _ patterns (AreGathered.by_file e is) = of_file outputs e (object_of e left.heads) refl
+  of_gathered : (outputs : List (Name × ToolOutput)) (gathered : Collected) → AreGathered left outputs gathered → IfOk gathered All_settled
+  of_gathered outputs _ (AreGathered.bound values none h) = of_outputs outputs (Ok values) h
+  of_gathered outputs _ (AreGathered.unbound id fault none h) = tt
+  of_gathered outputs _ (AreGathered.by_file e is) = of_file outputs e (object_of e left.heads) refl
 
   record AreRead (values : Named) : Type 0 where
     settled : All_settled values
@@ -221,11 +210,11 @@ module _ (found : List Found) (left : Left) (is_left : IsLeftBy found left) wher
     by false is = tt
   then_read (Err fault) each = tt
 
-  of_collected : (outputs : List (Name × ToolOutput)) (values : Named) → ArePatternsOfNames outputs → IsCollected left outputs (Ok values) → AreRead values
-  of_collected outputs values patterns is = subst (λ (c : Collected). IfOk c AreRead) (sym is.is) (then_read is.gathered (of_gathered outputs is.gathered patterns is.are_gathered))
+  of_collected : (outputs : List (Name × ToolOutput)) (values : Named) → IsCollected left outputs (Ok values) → AreRead values
+  of_collected outputs values is = subst (λ (c : Collected). IfOk c AreRead) (sym is.is) (then_read is.gathered (of_gathered outputs is.gathered is.are_gathered))
 
-  pub outputs_settled : (outputs : List (Name × ToolOutput)) (values : Named) → ArePatternsOfNames outputs → IsCollected left outputs (Ok values) → All S (values_of values)
-  outputs_settled outputs values patterns is = (of_collected outputs values patterns is).settled
+  pub outputs_settled : (outputs : List (Name × ToolOutput)) (values : Named) → IsCollected left outputs (Ok values) → All S (values_of values)
+  outputs_settled outputs values is = (of_collected outputs values is).settled
 
   -- ---- they are kept
 
@@ -233,23 +222,18 @@ module _ (found : List Found) (left : Left) (is_left : IsLeftBy found left) wher
   as_fields [] all = AreSettledFields.no_fields
   as_fields (e ∷ es) all = AreSettledFields.one_field e.0 e.1 es (All-head S e.1 (values_of es) all) (as_fields es (All-tail S e.1 (values_of es) all))
 
-  unseen : (es : Named) → list_any (λ (e : Name × Value). has_class e.1) es ≡ false → list_any (λ (e : Name × Seen). e.1.1) (map_values seen es) ≡ false
-  unseen [] none = refl
-  unseen (e ∷ es) none =
-      let parts = neither (has_class e.1) (list_any (λ (e : Name × Value). has_class e.1) es) none in
-      ap (λ b. b || list_any (λ (e : Name × Seen). e.1.1) (map_values seen es)) parts.0 ∙ unseen es parts.1
-
   not_true : (b : Bool) → not b ≡ true → b ≡ false
   not_true true h = absurd (true≢false (sym h))
   not_true false h = refl
 
-  pub outputs_kept : (outputs : List (Name × ToolOutput)) (values : Named) → ArePatternsOfNames outputs → IsCollected left outputs (Ok values) → AreInForm values → AreUnclassed values → IsKept values
-  outputs_kept outputs values patterns is form none =
-      let read = of_collected outputs values patterns is in
-      let no_class : Bool = not (list_any (λ (e : Name × Value). has_class e.1) values) in
-      let shallow : Bool = nat_le (level_of (map (λ (e : Name × ℕ). e.1) (map_values nesting values))) greatest_depth in
-      let class = unclassed values form.order none in
+  pub outputs_kept : (outputs : List (Name × ToolOutput)) (values : Named) → IsCollected left outputs (Ok values) → AreInForm values → IsKept values
+  outputs_kept outputs values is form =
+      let read = of_collected outputs values is in
+      let object : Value = value.Fields values in
+      let in_form : IsInForm object = IsInForm.fields values form.order form.each in
+      let no_class : Bool = not (has_class object) in
+      let shallow : Bool = nat_le (nesting object) greatest_depth in
       record {
-        object = IsStorable.fields values (fields_storable L values (as_fields values read.settled) form.each (unseen values (not_true (list_any (λ (e : Name × Value). has_class e.1) values) (both_first no_class shallow read.readable)))) form.order class.no_file class.no_directory;
-        shallow = ap (λ n. nat_le n greatest_depth) (sym (outputs_nest values form.order form.each)) ∙ both_second no_class shallow read.readable;
+        object = storable L object (IsSettled.fields values (as_fields values read.settled)) in_form (not_true (has_class object) (both_first no_class shallow read.readable));
+        shallow = ap (λ n. nat_le n greatest_depth) (sym (nests_as_json object in_form)) ∙ both_second no_class shallow read.readable;
       }

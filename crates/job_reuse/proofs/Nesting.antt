@@ -3,7 +3,7 @@ use Rattle.std.proofs.Common.{◌≡◌, ℕ, suc, max, List, [], ◌∷◌, map
 use Rattle.std.specs.Prelude.{unwrap_or}
 use Rattle.std.specs.List.{AllByRecursion}
 use Rattle.std.specs.Option.{IfSome, option_map_or}
-use Rattle.plain_data.specs.ByName.{IsByName, map_values}
+use Rattle.plain_data.specs.ByName.{map_values}
 use Rattle.serde_json.specs.Data.{depth}
 use Rattle.cwl_value.proofs.Induction.{Cases, induction}
 use Rattle.cwl_value.proofs.JsonOf.{json_of-FileVal, json_of-DirVal, json_of-List, json_of-Fields}
@@ -86,9 +86,3 @@ cases = record {
 
 pub nests_as_json : (v : Value) → IsInForm v → nesting v ≡ depth (json_of v)
 nests_as_json = induction cases
-
--- of outputs by name
-pub outputs_nest : (es : List (Name × Value)) → IsByName es → AreFieldsInForm es → level_of (map (λ e. e.1) (map_values nesting es)) ≡ depth (json_of (value.Fields es))
-outputs_nest es order each =
-    let is : nesting (value.Fields es) ≡ level_of (map (λ (e : Name × ℕ). e.1) (map_values nesting es)) = search (rules, the_lemmas) in
-    sym is ∙ nests_as_json (value.Fields es) (IsInForm.fields es order each)

@@ -1,20 +1,16 @@
 -- Paths by their last component, and names in one folder.
-use Rattle.std.proofs.Common.{◌≡◌, ℕ, zero, suc, ◌+◌, ◌-◌, ◌<◌, ◌≤◌, Bool, true, false, true≢false, not, ◌||◌, ◌==◌, IsTrue, [], ◌∷◌, ◌++◌, length, length-append, get_or, take, drop, take-append-drop, refl, sym, ap, subst, ◌∙◌, take_at, drop_at, append_assoc, arith}
-use Rattle.std.specs.Prelude.{bytes_eq, codes, if◌then◌else◌, slice_index}
+use Rattle.std.proofs.Common.{◌≡◌, ℕ, zero, suc, ◌+◌, ◌-◌, ◌<◌, ◌≤◌, Bool, true, false, true≢false, not, ◌||◌, IsTrue, [], ◌∷◌, ◌++◌, length, length-append, get_or, take, drop, refl, sym, ap, ◌∙◌, take_at, drop_at, append_assoc, arith}
+use Rattle.std.specs.Prelude.{bytes_eq, codes}
 use Rattle.std.specs.Cmp.Lexicographic.{slice_cmp}
 use Rattle.std.specs.List.{list_any, suffix_len, before_last}
 use Rattle.std.specs.Ordering.{nat_cmp, ordering_then}
-use Rattle.std.proofs.lemmas.Bool.{eqb-true}
 use Rattle.std.proofs.lemmas.Cmp.{nat_cmp_total, tied_itself}
 use Rattle.std.proofs.lemmas.List.{get_or-append-add, length_push}
 use Rattle.std.proofs.lemmas.List.Sums.{suffix_len_is}
-use Rattle.std.proofs.lemmas.List.Folds.{list_any-append}
 use Rattle.std.proofs.lemmas.Slice.Eq.{bytes_eq-Decides}
 use Rattle.std.proofs.Math.Seq.{get_or-append_seam}
 use Rattle.plain_data.specs.ByName.{name_cmp}
-use Rattle.cwl_value.specs.NameParts.{is_period}
 use Rattle.cwl_value.specs.Reading.{is_name}
-use Rattle.file_values.specs.Names.{stem, beside, required, secondary_name}
 use Rattle.collected_outputs.specs.Matched.{Name}
 use Rattle.collected_outputs.specs.Values.{is_slash, basename_of, stands_in}
 use Rattle.job_reuse.specs.Left.{IsPath}
@@ -80,29 +76,6 @@ folder_inside folder name none =
     let path : Name = folder ++ 47 ∷ name in
     take_at folder (47 ∷ name) (length path - suffix_len apart path - 1) (omega (arith, inside_suffix folder name none, length-append folder (47 ∷ name)))
 
--- a name without a slash, or what follows the last one
-pub data IsCut : Name → Type 0 where
-  whole : (name : Name) → list_any is_slash name ≡ false → IsCut name
-  cut : (folder name : Name) → list_any is_slash name ≡ false → IsCut (folder ++ 47 ∷ name)
-
-cut_more : (c : ℕ) (name : Name) → IsCut name → IsCut (c ∷ name)
-cut_more c _ (IsCut.whole name none) = by (is_slash c) refl where
-  by : (b : Bool) → is_slash c ≡ b → IsCut (c ∷ name)
-  by true is = subst (λ n. IsCut (n ∷ name)) (sym (eqb-true c 47 is)) (IsCut.cut [] name none)
-  by false is = IsCut.whole (c ∷ name) (ap (λ b. b || list_any is_slash name) is ∙ none)
-cut_more c _ (IsCut.cut folder name none) = IsCut.cut (c ∷ folder) name none
-
-pub cut_of : (name : Name) → IsCut name
-cut_of [] = IsCut.whole [] refl
-cut_of (c ∷ cs) = cut_more c cs (cut_of cs)
-
--- a basename has no slash, whatever it is of
-pub basename_unslashed : (name : Name) → list_any is_slash (basename_of name) ≡ false
-basename_unslashed name = by name (cut_of name) where
-  by : (path : Name) → IsCut path → list_any is_slash (basename_of path) ≡ false
-  by _ (IsCut.whole name none) = ap (list_any is_slash) (basename_alone name none) ∙ none
-  by _ (IsCut.cut folder name none) = ap (list_any is_slash) (basename_inside folder name none) ∙ none
-
 -- ---- paths
 
 pub basename_named : (path : Name) → IsPath path → IsTrue (is_name (basename_of path))
@@ -143,28 +116,3 @@ same_front (c ∷ cs) one other = ap (λ o. ordering_then o (slice_cmp nat_cmp (
 pub by_basename : (folder one other : Name) → IsPath one → IsPath other → stands_in folder one ≡ true → stands_in folder other ≡ true → name_cmp one other ≡ name_cmp (basename_of one) (basename_of other)
 by_basename folder one other is_one is_other stands_one stands_other =
     (λ i. name_cmp (in_front folder one is_one stands_one i) (in_front folder other is_other stands_other i)) ∙ same_front (front folder) (basename_of one) (basename_of other)
-
--- ---- the name of a secondary file
-
-any_append : (xs ys : Name) → list_any is_slash xs ≡ false → list_any is_slash ys ≡ false → list_any is_slash (xs ++ ys) ≡ false
-any_append xs ys none_here none_there = list_any-append is_slash xs ys ∙ ap (λ b. b || list_any is_slash ys) none_here ∙ none_there
-
-any_take : (n : ℕ) (xs : Name) → list_any is_slash xs ≡ false → list_any is_slash (take n xs) ≡ false
-any_take n xs none = (first_or (list_any is_slash (take n xs)) (list_any is_slash (drop n xs)) (sym (list_any-append is_slash (take n xs) (drop n xs)) ∙ ap (list_any is_slash) (take-append-drop n xs) ∙ none)).0
-
-either : (b : Bool) (xs ys : Name) → list_any is_slash xs ≡ false → list_any is_slash ys ≡ false → list_any is_slash (if b then xs else ys) ≡ false
-either true xs ys none_here none_there = none_here
-either false xs ys none_here none_there = none_there
-
-stem_unslashed : (name : Name) → list_any is_slash name ≡ false → list_any is_slash (stem name) ≡ false
-stem_unslashed name none = either (list_any is_period name) (before_last is_period name) name (any_take (length name - suffix_len (λ x. not (is_period x)) name - 1) name none) none
-
-beside_unslashed : (pattern name : Name) → list_any is_slash pattern ≡ false → list_any is_slash name ≡ false → list_any is_slash (beside pattern name) ≡ false
-beside_unslashed [] name none_here none = none
-beside_unslashed (c ∷ rest) name none_here none =
-    either (c == 94) (beside rest (stem name)) (name ++ c ∷ rest) (beside_unslashed rest (stem name) (first_or (is_slash c) (list_any is_slash rest) none_here).1 (stem_unslashed name none)) (any_append name (c ∷ rest) none none_here)
-
-pub secondary_unslashed : (pattern name : Name) → list_any is_slash pattern ≡ false → list_any is_slash name ≡ false → list_any is_slash (secondary_name pattern name) ≡ false
-secondary_unslashed pattern name none_here none =
-    beside_unslashed (required pattern) name
-    (either (slice_index pattern (length pattern - 1) == 63) (take (length pattern - 1) pattern) pattern (any_take (length pattern - 1) pattern none_here) none_here) none

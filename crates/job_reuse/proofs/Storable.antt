@@ -117,7 +117,7 @@ class_of : (o : Option Value) → option_map_or (λ (s : Seen). s.0) (option_map
 class_of None h = (λ same. true≢false (ap (λ n. bytes_eq n []) same), λ same. true≢false (ap (λ n. bytes_eq n []) same))
 class_of (Some v) h = induction class_cases v h
 
-pub unclassed : (es : List (Name × Value)) → IsByName es → is_classed (map_values seen es) ≡ false → HasNoClass es
+unclassed : (es : List (Name × Value)) → IsByName es → is_classed (map_values seen es) ≡ false → HasNoClass es
 unclassed es order none =
     let found : class_in (fields_json es) ≡ written_class (value_at (codes "class") es) = ap (λ o. unwrap_or (option_and_then as_str o) []) (field_found (codes "class") es order) in
     let other = class_of (value_at (codes "class") es) (ap (λ o. option_map_or (λ (s : Seen). s.0) o false) (sym (value_at-map_values seen (codes "class") es)) ∙ none) in
@@ -172,7 +172,7 @@ module _ (listing : Listing) where
         let parts = neither (has_class v) (any_seen (map seen vs)) none in
         AreStorable.one_more v vs (storable v one first parts.0) (all_storable vs more rest parts.1)
 
-    pub fields_storable : (es : List (Name × Value)) → AreSettledFields listing es → AreFieldsInForm es → list_any (λ e. e.1.1) (map_values seen es) ≡ false → AreStorableFields es
+    fields_storable : (es : List (Name × Value)) → AreSettledFields listing es → AreFieldsInForm es → list_any (λ e. e.1.1) (map_values seen es) ≡ false → AreStorableFields es
     fields_storable _ AreSettledFields.no_fields form none = AreStorableFields.no_fields
     fields_storable _ (AreSettledFields.one_field name v es one more) (AreFieldsInForm.one_field _ _ _ first rest) none =
         let parts = neither (has_class v) (list_any (λ e. e.1.1) (map_values seen es)) none in

@@ -16,7 +16,7 @@ use Rattle.job_rows.specs.Storable.{IsKept}
 use Rattle.job_rows.specs.declared.row.Row.{Row}
 use Rattle.staging.specs.declared.found.Found.{Found}
 use Rattle.job_reuse.specs.Form.{AreInForm}
-use Rattle.job_reuse.specs.Left.{IsLeftBy, ArePatternsOfNames, AreUnclassed}
+use Rattle.job_reuse.specs.Left.{IsLeftBy}
 use Rattle.job_reuse.specs.Places.{fields_places}
 use Rattle.job_reuse.specs.Rows.{AreTheSame, made_row}
 use Rattle.job_reuse.specs.Sound.{IsSound}
@@ -24,17 +24,15 @@ use Rattle.job_reuse.specs.Sound.{IsSound}
 -- these values were collected as the outputs of a job, by whatever way, from what its child left behind
 pub record AreOfAJob (found : List Found) (left : Left) (outputs : List (Name × ToolOutput)) (values : Named) : Type 0 where
   pub left_by : IsLeftBy found left
-  pub patterns : ArePatternsOfNames outputs
   pub collected : IsCollected left outputs (Ok values)
 
 -- such as are read back from their JSON
 abbrev pub CollectedOutputsAreKept : Type 0
-CollectedOutputsAreKept = (found : List Found) (left : Left) (outputs : List (Name × ToolOutput)) (values : Named) → AreOfAJob found left outputs values → AreInForm values → AreUnclassed values → IsKept values
+CollectedOutputsAreKept = (found : List Found) (left : Left) (outputs : List (Name × ToolOutput)) (values : Named) → AreOfAJob found left outputs values → AreInForm values → IsKept values
 
 -- what was put of a job reads as the same outputs
 abbrev pub CollectedOutputsReadBack : Type 0
-CollectedOutputsReadBack = (found : List Found) (left : Left) (outputs : List (Name × ToolOutput)) (values : Named) → AreOfAJob found left outputs values → AreInForm values → AreUnclassed values
-    → reading (json_of (value.Fields values)) ≡ Ok (value.Fields values)
+CollectedOutputsReadBack = (found : List Found) (left : Left) (outputs : List (Name × ToolOutput)) (values : Named) → AreOfAJob found left outputs values → AreInForm values → reading (json_of (value.Fields values)) ≡ Ok (value.Fields values)
 
 -- the row of a job is one of its tool: what it has would be taken back
 abbrev pub RowsOfJobsAreSound : Type 0

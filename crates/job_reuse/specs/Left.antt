@@ -1,21 +1,14 @@
 -- What a job's child leaves behind, and what it was given, as jobs of a run have it (CWL v1.2, Command Line Tool, "Output binding").
-use Rattle.std.specs.Prelude.{◌≡◌, Bool, true, false, IsTrue, not, List, ◌∷◌, ◌++◌, All}
-use Rattle.std.specs.List.{list_any}
+use Rattle.std.specs.Prelude.{◌≡◌, Bool, true, IsTrue, not, List, ◌∷◌, ◌++◌, All}
 use Rattle.std.specs.Map.{values_of}
-use Rattle.plain_data.specs.ByName.{map_values}
-use Rattle.cwl_process.specs.declared.tool.SecondaryFile.{SecondaryFile}
-use Rattle.cwl_process.specs.declared.tool.ToolOutput.{ToolOutput}
 use Rattle.cwl_value.specs.Reading.{is_name}
 use Rattle.cwl_value.specs.declared.place.Place.{Place}
 use Rattle.collected_outputs.specs.Laws.{is_name as is_name_there}
 use Rattle.collected_outputs.specs.Listing.{listing_of}
 use Rattle.collected_outputs.specs.Matched.{Name}
-use Rattle.collected_outputs.specs.Object.{Named}
 use Rattle.collected_outputs.specs.Outputs.{Left}
 use Rattle.collected_outputs.specs.Patterns.{runtime}
-use Rattle.collected_outputs.specs.Readable.{seen, is_classed}
 use Rattle.collected_outputs.specs.Throughout.{all_places}
-use Rattle.collected_outputs.specs.Values.{is_slash}
 use Rattle.staging.specs.declared.found.Found.{Found}
 
 -- the path of what stands below a folder: a name, or a name in such a folder
@@ -33,11 +26,3 @@ pub record IsLeftBy (found : List Found) (left : Left) : Type 0 where
   pub paths : All (λ f. IsPath f.name) found
   pub elsewhere : All (λ v. all_places is_elsewhere v ≡ true) (values_of left.inputs)
   pub runtime : left.runtime ≡ runtime
-
--- each pattern of a secondary file makes a name of a name: it has no `/`
-abbrev pub ArePatternsOfNames : List (Name × ToolOutput) → Type 0
-ArePatternsOfNames outputs = All (λ (output : Name × ToolOutput). All (λ (file : SecondaryFile). list_any is_slash file.pattern ≡ false) output.1.secondary_files) outputs
-
--- no output is named `class` and has the text `File` or `Directory`
-abbrev pub AreUnclassed : Named → Type 0
-AreUnclassed values = is_classed (map_values seen values) ≡ false

@@ -2,8 +2,8 @@
 ghost use Rattle.job_reuse.specs.Laws.{CollectedOutputsAreKept, CollectedOutputsReadBack, RowsOfJobsAreSound, RowsAreSoundOrNot, SameWhereErasedAndNamedAlike, FetchedFilesStandIn, FilesAreTheSameOrNot, OutputsAreTheSameOrNot};
 
 /// Says that the outputs of a job are such as a record keeps and gives back as they were, by whatever way they were collected:
-/// where what was found has paths below the job's folder, the job's inputs stand elsewhere, and no output is named `class` with
-/// the text `File` or `Directory`.
+/// where what was found has paths below the job's folder, and the job's inputs stand elsewhere. That the outputs are in form is
+/// known of each row that is made of them (`row_of`).
 pub fn collected_outputs_are_kept()
     ensures kept { CollectedOutputsAreKept }
     ensures read { CollectedOutputsReadBack }

@@ -22,9 +22,12 @@ demo_command = with_flags (new_app (codes "demo"))
 abbrev pub needing_subcommand : App → App
 needing_subcommand command = record command { top = record command.top { subcommand_required = true } }
 
+abbrev pub versioned : App → App
+versioned command = record command { top = record command.top { has_version = true } }
+
 -- the program's command with `demo` alone
 abbrev pub with_demo : App
-with_demo = with_subcommand (needing_subcommand (new_app (codes "deparohi"))) demo_command.top
+with_demo = with_subcommand (needing_subcommand (versioned (new_app (codes "deparohi")))) demo_command.top
 
 -- and with its other subcommands
 abbrev pub with_check : App

@@ -8,6 +8,7 @@ use crate::flags::{CHECK_END, DEMO_END, is_wanted, with_flags};
 use crate::planning::{PlanWords, plan_command, plan_words};
 use crate::record_words::{RecordWords, record_command, record_words};
 use crate::run_words::{RunWords, run_command, run_words, with_placed};
+use crate::version::VERSION;
 use clap::error::ErrorKind;
 use clap::{ArgMatches, Command, Error};
 use std::alloc::Global;
@@ -62,6 +63,7 @@ fn with_demo<'a>(alloc: Global) -> Result<Command<'a>, Error>
     let demo = demo_command(alloc)?;
     let whole = Command::new(alloc, "deparohi")
         .about("Runs documents of the Common Workflow Language")
+        .version(VERSION)
         .subcommand_required(true)
         .subcommand(demo)?;
     Ok(whole)

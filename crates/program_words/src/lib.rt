@@ -26,6 +26,7 @@ mod shown;
 mod shows;
 mod telling;
 mod terminal;
+mod version;
 
 pub use command::{Choice, choice_of};
 pub use json_word::name_json_word;
@@ -41,3 +42,4 @@ pub use shown::{cut, visible, visible_text};
 pub use shows::Shows;
 pub use telling::{Listen, Silent, Teller, Telling, ending};
 pub use terminal::{add_explain_word, add_terminal_words};
+pub use version::VERSION;

@@ -1,1 +1,3 @@
 pub mod EndsOfRows
+pub mod ForGood
+pub mod LeavesOthers

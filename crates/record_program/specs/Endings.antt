@@ -1,9 +1,10 @@
 -- How the command ends, and what it then writes.
 use Rattle.std.specs.Prelude.{◌≡◌, ◌⊎◌, ℕ, List, ◌++◌, Option, Result, Ok, Err, codes, flat_map}
 use Rattle.std.specs.Io.KnownBytes.{Appends}
+use Rattle.sqlite.specs.declared.error.Error.{Error}
 use Rattle.job_rows.specs.declared.row.Row.{Row}
 use Rattle.job_record.specs.declared.fault.RecordFault.{RecordFault}
-use Rattle.job_record.specs.declared.fault.RecordFault.TheVariants.{OutOfMemory}
+use Rattle.job_record.specs.declared.fault.RecordFault.TheVariants.{Store, OutOfMemory}
 use Rattle.job_record.specs.Log.{code_of}
 use Rattle.record_program.specs.declared.ending.Ending.{Ending}
 use Rattle.record_program.specs.declared.ending.Ending.TheVariants.{Rows, Input, Record}
@@ -24,6 +25,12 @@ abbrev pub status_of : Ending → ℕ
 status_of (Rows lines) = 0
 status_of Input = 3
 status_of (Record fault) = 3
+
+-- a close that failed is told in place of rows, and what went wrong first stays
+abbrev pub unclosed : Error → Ending → Ending
+unclosed error (Rows lines) = Record (Store error)
+unclosed error Input = Input
+unclosed error (Record fault) = Record fault
 
 -- the bytes that a writer holds, where they are known
 abbrev pub Held : Type 0

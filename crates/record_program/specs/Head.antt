@@ -1,6 +1,6 @@
 -- What the first bytes of a file and of its log say: SQLite, "Database File Format", 1.3 "The Database Header" and 4.1 "WAL File Format".
 -- Numbers have their highest byte first.
-use Rattle.std.specs.Prelude.{ℕ, ◌==◌, Bool, not, ◌&&◌, ◌||◌, if◌then◌else◌, List, [], ◌∷◌, ◌++◌, length, take, nat_lt, nat_le, slice_index, codes, bytes_eq, Option, Some, None}
+use Rattle.std.specs.Prelude.{ℕ, ◌+◌, ◌==◌, Bool, not, ◌&&◌, ◌||◌, if◌then◌else◌, List, [], ◌∷◌, ◌++◌, length, take, nat_lt, nat_le, slice_index, codes, bytes_eq, Option, Some, None}
 use Rattle.std.specs.List.{list_all}
 use Rattle.sqlite.specs.declared.error.Error.TheVariants.{SqliteFailure}
 use Rattle.sqlite.specs.declared.error.ErrorCode.TheVariants as code
@@ -54,6 +54,10 @@ has_log_pages bytes =
 -- a log whose pages have another size
 abbrev pub is_other_log : List ℕ → Bool
 is_other_log bytes = nat_le 32 (length bytes) && (is_log bytes && not (has_log_pages bytes))
+
+-- a log with no room for a frame: its header, that of a frame, 24 bytes, and a page of 4,096; it commits nothing
+abbrev pub is_bare_log : ℕ → Bool
+is_bare_log bytes = nat_lt bytes (32 + 24 + 4096)
 
 -- ---- why such a file is not opened
 

@@ -1,5 +1,5 @@
 -- The line that a row is shown as, and the keys that have a sum.
-use Rattle.std.specs.Prelude.{ℕ, ◌-◌, ◌^◌, min, Bool, if◌then◌else◌, List, [], ◌∷◌, ◌++◌, codes, decimal, bytes_eq, sum_by, flat_map}
+use Rattle.std.specs.Prelude.{ℕ, ◌-◌, ◌^◌, min, Bool, if◌then◌else◌, List, ◌++◌, codes, decimal, bytes_eq, sum_by, filter}
 use Rattle.hex.specs.Hex.{encode_lower}
 use Rattle.sha1.specs.Sha1.{sha1}
 use Rattle.staging.specs.declared.found.Found.{Found}
@@ -23,6 +23,10 @@ kept_word archived = if archived then codes " yes\n" else codes " no\n"
 abbrev pub line_of : Row → List ℕ
 line_of row = key_sum row.key ++ spaced row.cost ++ spaced (bytes_of row.files) ++ kept_word row.archived
 
--- the keys whose SHA-1 has this text
-abbrev pub keys_with : List ℕ → List Row → List (List ℕ)
-keys_with sum = flat_map (λ row. if bytes_eq (key_sum row.key) sum then row.key ∷ [] else [])
+-- the key has a SHA-1 of this text
+abbrev pub has_sum : List ℕ → List ℕ → Bool
+has_sum sum key = bytes_eq (key_sum key) sum
+
+-- those of the keys that have it
+abbrev pub keys_with : List ℕ → List (List ℕ) → List (List ℕ)
+keys_with sum = filter (has_sum sum)

@@ -1,8 +1,9 @@
 ghost use Rattle.std.specs.Prelude.{◌≡◌, OnOk};
-ghost use Rattle.record_program.specs.Endings.{Prints, status_of};
+ghost use Rattle.record_program.specs.Endings.{IsEnding, Prints, status_of, unclosed};
 
 use job_record::RecordFault;
 use plain_data::Text;
+use sqlite::Error;
 use std::io;
 use std::io::Write;
 
@@ -38,5 +39,18 @@ impl Ending {
             Ending::Input => writeln!(err, "fault: input"),
             Ending::Record(fault) => writeln!(err, "fault: {}", fault.code()),
         }
+    }
+}
+
+/// Returns how the command ends where the record could not be closed: with that, in place of rows. What went wrong first is told.
+#[tactic(auto, using(crate::specs::Endings::no_file, crate::specs::Endings::faulty))]
+pub fn unclosed(ending: Ending, error: Error) -> Ending
+    ensures told { result ≡ unclosed error ending }
+    ensures ending { IsEnding ending → IsEnding result }
+    ensures status { status_of result ≡ 3 }
+{
+    match ending {
+        Ending::Rows(_) => Ending::Record(RecordFault::Store(error)),
+        other => other,
     }
 }

@@ -2,13 +2,14 @@
 ghost use Rattle.std.specs.Prelude.{◌≡◌, [], false, IfOk};
 ghost use Rattle.record_program.specs.Endings.{IsEnding, Says};
 
+use crate::closing::forgotten_for_good;
 use crate::ending::Ending;
 use crate::look::{Look, looked, looked_if_there, remove_log};
 use crate::store::shown;
 use crate::tables::as_record;
 use job_record::{JobRecord, RecordFault};
 use job_rows::Record;
-use sqlite::{Connection, Error, FileStore};
+use sqlite::{Connection, FileStore};
 use sqlite_std_file::{File, Unknown};
 use std::io::Write;
 use std::{fs, io, mem};
@@ -178,7 +179,7 @@ fn in_record(
     ensures { IsEnding result }
 {
     match forget {
-        Some(sum) => forgotten(rt, record, sum),
+        Some(sum) => without_rows(rt, record, sum),
         None => only_shown(rt, record, look.new_log()),
     }
 }
@@ -191,30 +192,16 @@ fn only_shown(
 ) -> Ending
     ensures { IsEnding result }
 {
-    let ending = shown(rt.alloc(), &mut record, None);
+    let ending = shown(rt.alloc(), &mut record);
     remove_log(rt, new_log);
     mem::drop(record);
     ending
 }
 
-fn forgotten(rt: &HostRuntime, mut record: JobRecord<FileStore<File>>, sum: &str) -> Ending
+fn without_rows(rt: &HostRuntime, record: JobRecord<FileStore<File>>, sum: &str) -> Ending
     ensures { IsEnding result }
 {
-    let ending = shown(rt.alloc(), &mut record, Some(sum));
-    match record.into_connection().close() {
-        Ok(()) => ending,
-        Err(error) => ended_with(ending, error),
-    }
-}
-
-// What went wrong first is told.
-#[tactic(auto, using(crate::specs::Endings::no_file, crate::specs::Endings::faulty))]
-fn ended_with(ending: Ending, error: Error) -> Ending
-    requires { IsEnding ending }
-    ensures { IsEnding result }
-{
-    match ending {
-        Ending::Rows(_) => Ending::Record(RecordFault::Store(error)),
-        other => other,
-    }
+    let (ending, files) = forgotten_for_good(rt.alloc(), record, sum);
+    mem::drop(files);
+    ending
 }

@@ -1,6 +1,6 @@
 //! What the first bytes of a file and of its log say, before the store sees them.
 ghost use Rattle.std.specs.Prelude.{◌≡◌, ◌≤◌, length};
-ghost use Rattle.record_program.specs.Head.{is_blank, has_magic, has_pages, is_utf16, is_vacuumed, form_of, head_of, is_log, has_log_pages, is_other_log, of_log, refusal_of};
+ghost use Rattle.record_program.specs.Head.{is_blank, has_magic, has_pages, is_utf16, is_vacuumed, form_of, head_of, is_log, has_log_pages, is_other_log, is_bare_log, of_log, refusal_of};
 
 use job_record::RecordFault;
 use sqlite::{Error, ErrorCode};
@@ -10,6 +10,9 @@ pub const HEADER: usize = 100;
 
 /// How many bytes the header of a log has.
 pub const LOG_HEADER: usize = 32;
+
+/// How many bytes a log with one frame has: its header, the frame's, and a page.
+const LEAST_LOG: u64 = 32 + 24 + 4_096;
 
 const MAGIC: &[u8] = b"SQLite format 3\0";
 
@@ -113,6 +116,13 @@ fn has_log_pages(bytes: &[u8]) -> bool
     ensures { result ≡ has_log_pages bytes.now }
 {
     bytes[8] == 0 && bytes[9] == 0 && bytes[10] == 0x10 && bytes[11] == 0
+}
+
+/// Whether a log of so many bytes has no room for a frame, and so commits nothing.
+pub fn is_bare_log(bytes: u64) -> bool
+    ensures { result ≡ is_bare_log bytes }
+{
+    bytes < LEAST_LOG
 }
 
 /// Returns why such a file is not opened: R1 for a database that no record is, and R4 for what is none. `other_log` says

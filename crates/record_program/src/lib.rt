@@ -9,6 +9,7 @@
 //! (`specs/Head.antt`); before a row is read, `tables` looks whether both tables are tables.
 #![tactic(auto)]
 
+mod closing;
 mod ending;
 mod file;
 mod head;
@@ -19,10 +20,11 @@ mod store;
 mod tables;
 mod words;
 
-pub use ending::Ending;
+pub use closing::forgotten_for_good;
+pub use ending::{Ending, unclosed};
 pub use file::{Records, main_run};
-pub use head::{Head, head_of, is_other_log, refusal_of};
+pub use head::{Head, head_of, is_bare_log, is_other_log, refusal_of};
 pub use keys::keys_with;
 pub use lines::rows_text;
-pub use store::{ended, shown};
+pub use store::{ended, forgotten, shown};
 pub use words::fault_words;

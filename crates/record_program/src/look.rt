@@ -1,7 +1,7 @@
 //! A file and its log, looked at before the store opens them.
 ghost use Rattle.std.specs.Prelude.{◌≤◌, IfOk, length};
 
-use crate::head::{HEADER, Head, LOG_HEADER, head_of, is_other_log, refusal_of};
+use crate::head::{HEADER, Head, LOG_HEADER, head_of, is_bare_log, is_other_log, refusal_of};
 use job_record::RecordFault;
 use sqlite::{Error, ErrorCode};
 use std::io::Read;
@@ -51,10 +51,18 @@ pub fn looked_if_there(rt: &HostRuntime, file: &str) -> Result<Option<Look>, Rec
     }
 }
 
-/// Removes the log that an opening has made, while the files are held.
+/// Removes the log that an opening has made, while the files are held. One that another program has committed to since the look stays.
 pub fn remove_log(rt: &HostRuntime, new_log: Option<&str>) {
     if let Some(log) = new_log {
-        let _removed = fs::remove_file(rt, log);
+        remove_if_bare(rt, log);
+    }
+}
+
+fn remove_if_bare(rt: &HostRuntime, log: &str) {
+    if let Ok(found) = fs::metadata(rt, log) {
+        if is_bare_log(found.len()) {
+            let _removed = fs::remove_file(rt, log);
+        }
     }
 }
 

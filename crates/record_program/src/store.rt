@@ -1,8 +1,14 @@
-//! What is shown of a record, over any store.
-ghost use Rattle.std.specs.Prelude.{◌≡◌, IfOk, IfErr, flat_map};
+//! What is shown of a record, over any store, and which rows are forgotten first.
+ghost use Rattle.std.specs.Prelude.{◌≡◌, ℕ, List, IfOk, IfErr, IsTrue, flat_map};
+ghost use Rattle.sqlite.specs.State.{HasCleanDisk};
+ghost use Rattle.sqlite.specs.Held.{state};
+ghost use Rattle.sqlite_rules.specs.Lists.{Has};
 ghost use Rattle.job_record.specs.declared.fault.RecordFault.TheVariants.{OutOfMemory};
+ghost use Rattle.job_record.specs.Map.{IsRecord};
 ghost use Rattle.record_program.specs.Endings.{Ends, IsEnding};
-ghost use Rattle.record_program.specs.Lines.{line_of};
+ghost use Rattle.record_program.specs.Forgetting.{Forgets, Shows, ForgetsFirst};
+ghost use Rattle.record_program.specs.inner.Steps.{Picks, PicksOf, HoldsKeys, ForgetsOne, ForgetsAll};
+ghost use Rattle.record_program.specs.Lines.{has_sum, line_of};
 
 use crate::ending::Ending;
 use crate::keys::keys_with;
@@ -13,14 +19,31 @@ use plain_data::{Items, Text};
 use sqlite::Alter;
 use std::alloc::Global;
 
+/// Shows the rows of a record.
+#[tactic(auto, using(crate::proofs::EndsOfRows::ends_end))]
+pub fn shown<S: Alter>(alloc: Global, kept: &mut JobRecord<S>) -> Ending
+    ensures ending { IsEnding result }
+    ensures clean { HasCleanDisk (state S.Store kept.new.conn)
+        → HasCleanDisk (state S.Store kept.old.conn) }
+    ensures shows { HasCleanDisk (state S.Store kept.new.conn)
+        → IsRecord (state S.Store kept.old.conn)
+        → Shows (state S.Store kept.old.conn) (state S.Store kept.new.conn) result }
+{
+    let rows = kept.list();
+    ended(alloc, rows)
+}
+
 /// Forgets the rows whose key has this SHA-1, and shows those that are left. Where no row has it, that is R3, and the
 /// record is as it was.
-#[tactic(auto, using(crate::specs::Endings::faulty, crate::proofs::EndsOfRows::ends_end))]
-pub fn shown<S: Alter>(alloc: Global, record: &mut JobRecord<S>, forget: Option<&str>) -> Ending
-    ensures { IsEnding result }
+#[tactic(auto, using(crate::specs::Endings::faulty))]
+pub fn forgotten<S: Alter>(alloc: Global, kept: &mut JobRecord<S>, sum: &str) -> Ending
+    ensures ending { IsEnding result }
+    ensures forgets { HasCleanDisk (state S.Store kept.new.conn)
+        → IsRecord (state S.Store kept.old.conn)
+        → ForgetsFirst S.Store kept.old.conn kept.new.conn sum.now result }
 {
-    match forgotten(alloc, record, forget) {
-        Ok(()) => ended(alloc, record.list()),
+    match forget_rows(alloc, kept, sum) {
+        Ok(()) => shown(alloc, kept),
         Err(fault) => Ending::Record(fault),
     }
 }
@@ -51,29 +74,58 @@ fn text_of(alloc: Global, rows: Items<Row>) -> Result<Text, RecordFault>
     Ok(rows_text(alloc, rows.as_slice())?)
 }
 
-fn forgotten<S: Alter>(
+#[tactic(auto, using(crate::proofs::LeavesOthers::forgets_rows, crate::proofs::LeavesOthers::forgets_none))]
+fn forget_rows<S: Alter>(
     alloc: Global,
-    record: &mut JobRecord<S>,
-    forget: Option<&str>,
-) -> Result<(), RecordFault> {
-    match forget {
-        Some(sum) => {
-            let keys = keys_held(alloc, record, sum)?;
-            forget_all(record, keys.as_slice())
-        }
-        None => Ok(()),
+    kept: &mut JobRecord<S>,
+    sum: &str,
+) -> Result<(), RecordFault>
+    ensures clean { HasCleanDisk (state S.Store kept.new.conn)
+        → HasCleanDisk (state S.Store kept.old.conn) }
+    ensures forgets { HasCleanDisk (state S.Store kept.new.conn)
+        → IsRecord (state S.Store kept.old.conn)
+        → Forgets sum.now (state S.Store kept.old.conn) (state S.Store kept.new.conn) result }
+{
+    match keys_held(alloc, kept, sum) {
+        Ok(keys) => forget_all(kept, keys.as_slice()),
+        Err(fault) => Err(fault),
     }
 }
 
 // The keys of the record that have the sum: at least one, or R3.
+#[tactic(auto, using(crate::proofs::LeavesOthers::keys_hold))]
 fn keys_held<S: Alter>(
     alloc: Global,
-    record: &mut JobRecord<S>,
+    kept: &mut JobRecord<S>,
     sum: &str,
-) -> Result<Items<Text>, RecordFault> {
-    let rows = record.list()?;
-    let keys = keys_with(alloc, rows.as_slice(), sum)?;
-    drop(rows);
+) -> Result<Items<Text>, RecordFault>
+    ensures clean { HasCleanDisk (state S.Store kept.new.conn)
+        → HasCleanDisk (state S.Store kept.old.conn) }
+    ensures holds { HasCleanDisk (state S.Store kept.new.conn)
+        → IsRecord (state S.Store kept.old.conn)
+        → HoldsKeys sum.now (state S.Store kept.old.conn) (state S.Store kept.new.conn) result }
+{
+    let all = kept.keys();
+    picked(alloc, all, sum)
+}
+
+fn picked(
+    alloc: Global,
+    all: Result<Items<Text>, RecordFault>,
+    sum: &str,
+) -> Result<Items<Text>, RecordFault>
+    ensures { Picks sum.now all result }
+{
+    match all {
+        Ok(all) => some_with(alloc, &all, sum),
+        Err(fault) => Err(fault),
+    }
+}
+
+fn some_with(alloc: Global, all: &Items<Text>, sum: &str) -> Result<Items<Text>, RecordFault>
+    ensures { PicksOf sum.now all.now result }
+{
+    let keys = keys_with(alloc, all.as_slice(), sum)?;
     if keys.is_empty() {
         Err(RecordFault::NoRow)
     } else {
@@ -81,9 +133,31 @@ fn keys_held<S: Alter>(
     }
 }
 
-fn forget_all<S: Alter>(record: &mut JobRecord<S>, keys: &[Text]) -> Result<(), RecordFault> {
+fn forget_all<S: Alter>(kept: &mut JobRecord<S>, keys: &[Text]) -> Result<(), RecordFault>
+    ensures clean { HasCleanDisk (state S.Store kept.new.conn)
+        → HasCleanDisk (state S.Store kept.old.conn) }
+    ensures forgets { HasCleanDisk (state S.Store kept.new.conn)
+        → IsRecord (state S.Store kept.old.conn) → (sum : List ℕ)
+        → ((key : List ℕ) → Has keys.now key → IsTrue (has_sum sum key))
+        → ForgetsAll sum keys.now (state S.Store kept.old.conn) (state S.Store kept.new.conn)
+        result }
+{
     for key in keys {
-        record.forget(key.as_str())?;
+        forget_one(kept, key.as_str())?;
     }
     Ok(())
+}
+
+// A row that is gone already is forgotten.
+fn forget_one<S: Alter>(kept: &mut JobRecord<S>, key: &str) -> Result<(), RecordFault>
+    ensures clean { HasCleanDisk (state S.Store kept.new.conn)
+        → HasCleanDisk (state S.Store kept.old.conn) }
+    ensures forgets { HasCleanDisk (state S.Store kept.new.conn)
+        → IsRecord (state S.Store kept.old.conn)
+        → ForgetsOne key.now (state S.Store kept.old.conn) (state S.Store kept.new.conn) result }
+{
+    match kept.forget(key) {
+        Err(RecordFault::NoRow) => Ok(()),
+        answer => answer,
+    }
 }

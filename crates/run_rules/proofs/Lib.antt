@@ -3,6 +3,7 @@ pub mod Meaning
 pub mod OneJob
 pub mod Few
 pub mod TranscriptTells
+pub mod Answered
 pub mod Measuring
 pub mod Named
 pub mod Apart

@@ -48,7 +48,7 @@ pub record WasStarted (t : List Pair) (flight : Flight) : Type 0 where
   pub launch : Launch
   pub there : Contains t (call flight.1 (HostRequest.Start launch) (HostAnswer.Started flight.0))
 
-was_there : (p : Flight → Bool) (flying : List Flight) (x : Flight) → Contains (filter p flying) x → Contains flying x
+pub was_there : (p : Flight → Bool) (flying : List Flight) (x : Flight) → Contains (filter p flying) x → Contains flying x
 was_there p flying x there = All-contains (Contains flying) (filter p flying) x (All-filter p (Contains flying) flying (All-contains_itself flying)) there
 
 either_in : {X : Type 0} (x z y : X) → Contains (x ∷ z ∷ []) y → (x ≡ y) ⊎ (z ≡ y)

@@ -1,5 +1,5 @@
 -- A scene of two jobs that know nothing of each other, given by hand, with a slot for each: its runs, computed.
-use Rattle.std.proofs.Common.{◌≡◌, ℕ, Bool, true, cond, pos, List, [], ◌∷◌, ◌++◌, Option, Some, None, Ok, refl, lit<}
+use Rattle.std.proofs.Common.{◌≡◌, ℕ, Bool, true, cond, rules, sym, pos, List, [], ◌∷◌, ◌++◌, Option, Some, None, Ok, refl, lit<}
 use Rattle.std.specs.Fmt.{digits}
 use Rattle.std.specs.Prelude.{ℤ, false, codes}
 use Rattle.command_line.specs.Launch.{IsLaunch}
@@ -11,7 +11,10 @@ use Rattle.cwl_process.specs.declared.tool.Tool.{Tool}
 use Rattle.proc_host.specs.declared.call.HostAnswer.{HostAnswer}
 use Rattle.proc_host.specs.declared.call.HostRequest.{HostRequest}
 use Rattle.proc_host.specs.declared.call.HostFault.{HostFault}
-use Rattle.collected_outputs.specs.Collected.{IsCollected, bound}
+use Rattle.cwl_value.specs.declared.value.Value.{the_lemmas}
+use Rattle.cwl_value.specs.declared.value.Value as value
+use Rattle.collected_outputs.specs.Collected.{IsCollected, bound, readable}
+use Rattle.collected_outputs.specs.Readable.{has_class, nesting}
 use Rattle.collected_outputs.specs.HeadsWanted.{of_outputs, none as none_asked}
 use Rattle.collected_outputs.specs.Outputs.{none as no_outputs}
 use Rattle.staging.specs.Placing.{none as none_placed}
@@ -124,9 +127,15 @@ copies_nothing n = record {
 abbrev pub started_as : ℕ → Started
 started_as n = record { inputs = []; launch = launch n }
 
--- and nothing is collected of one without outputs
+-- and nothing is collected of one without outputs: the empty object can be read back
+empty_is_readable : readable [] ≡ Ok []
+empty_is_readable =
+    let no_class : has_class (value.Fields []) ≡ false = search (rules, the_lemmas) in
+    let one_level : nesting (value.Fields []) ≡ 1 = search (rules, the_lemmas) in
+    rw (no_class, one_level) refl
+
 pub collects_nothing : (n : ℕ) → IsCollected (left_of (started_as n) [] []) [] (Ok [])
-collects_nothing n = record { gathered = Ok []; are_gathered = bound [] refl no_outputs; is = refl }
+collects_nothing n = record { gathered = Ok []; are_gathered = bound [] refl no_outputs; is = sym empty_is_readable }
 
 abbrev ended : ℕ → Option ℤ → Pair
 ended ticket code = call [] HostRequest.Collect (HostAnswer.Ended (record { ticket = ticket; code = code; millis = 1000 }))
@@ -249,7 +258,7 @@ module _ (is : (n : ℕ) → IsLaunch tool [] (runtime_of options n) (launch n))
       (follows (starts a [] (launch 1) 1 refl) stays))
 
 collects_what_was_read : (n : ℕ) (read : Heads) → IsCollected (left_of (started_as n) [] read) [] (Ok [])
-collects_what_was_read n read = record { gathered = Ok []; are_gathered = bound [] refl no_outputs; is = refl }
+collects_what_was_read n read = record { gathered = Ok []; are_gathered = bound [] refl no_outputs; is = sym empty_is_readable }
 
 it_is_collected_once_all_is_read : Leads s (record { work = output_heads_due a 1000 [] (codes "g" ∷ []) []; events = one ++ child_exited 1 ∷ [] })
     (read_of (codes "w/j1/out/g") ∷ is_put a ∷ []) (at (one ++ came_well 1 a))

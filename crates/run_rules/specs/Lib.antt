@@ -17,6 +17,7 @@ pub mod Honest
 pub mod Recorded
 pub mod Reports
 pub mod RanWell
+pub mod OfAnswers
 pub mod HowOften
 pub mod PlannedFirst
 pub mod Followed

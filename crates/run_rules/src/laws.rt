@@ -36,7 +36,9 @@ ghost use Rattle.plan_checker.specs.declared.plan.Mark.{Mark};
 ghost use Rattle.plan_checker.specs.declared.plan.Mark.TheVariants.{Compute};
 ghost use Rattle.run_rules.specs.Blame.{Rise, given_tickets};
 ghost use Rattle.run_rules.specs.HowOften.{is_fetch_of, is_start_of, times};
-ghost use Rattle.run_rules.specs.Reports.{IsRight, entries_of, report_of};
+ghost use Rattle.run_rules.specs.OfAnswers.{EndIsOf, NoteIsOf};
+ghost use Rattle.run_rules.specs.Reports.{IsRight, entries_of, notes_of, report_of};
+ghost use Rattle.run_rules.specs.declared.outcome.Note.{Note};
 ghost use Rattle.run_rules.specs.Parents.{HasParentAt};
 ghost use Rattle.run_rules.specs.Followed.{FollowsCheapest};
 ghost use Rattle.run_rules.specs.PlannedFirst.{are_looks};
@@ -222,3 +224,13 @@ pub fn delivered_files_are_at_hand()
 {
     known_places_differ();
 }
+
+/// Says that no run invents a fault. Each one that a run ends with, and each one that it notes, came of an answer: of a call that
+/// failed so, of a command that the record refused so, or of a row that isn't one of the tool of its job.
+pub fn faults_came_of_answers()
+    ensures ends { (setting : Setting) (t : List Pair) (end : End) (run : IsRun setting t end)
+        → EndIsOf (scene_of setting) t run.happened.events end }
+    ensures notes { (setting : Setting) (t : List Pair) (f : Progress) (plans : PlansSoFar)
+        (note : Note)
+        → IsRunSoFar setting t f plans → Contains (notes_of f.events) note → NoteIsOf t note }
+{}

@@ -1,5 +1,6 @@
 pub mod Asked
 pub mod Blamed
+pub mod Recorded
 pub mod ByMap
 pub mod Calls
 pub mod Commands

@@ -15,6 +15,7 @@ use Rattle.run_rules.specs.declared.request.RecordRequest.{RecordRequest}
 use Rattle.run_rules.specs.declared.request.Request.{Request}
 use Rattle.run_rules.specs.declared.outcome.RunFault.{RunFault}
 use Rattle.run_rules.specs.declared.setting.Options.{Options}
+use Rattle.run_rules.specs.Blame.{Rise, given_tickets}
 use Rattle.run_rules.specs.Recorded.{Line, line_for, lines_of}
 use Rattle.run_rules.specs.Reports.{GainsRun, entries_of}
 use Rattle.job_graph.specs.Words.{Fields}
@@ -56,11 +57,13 @@ abbrev pub commands_by : Request → Result Answer AllocError → List Line
 commands_by asks (Ok answer) = lines_of (record { request = asks; answer = answer } ∷ [])
 commands_by asks (Err error) = []
 
--- the logs of a host and of a record gained a run of this process, which is reported so
+-- The logs of a host and of a record gained a run of this process, which is reported so. The tickets that were given rise, so no place was started
+-- more often than once and its retries (`no_place_is_started_too_often` of run_rules).
 pub record RunsOn (before after : List Entry) (lines_before lines_after : List Line) (process : Process) (inputs : Fields) (options : Options)
     (result : Result Report RunFault) : Type 0 where
   pub gained : List Entry
   pub logged : after ≡ before ++ gained
   pub lines : List Line
   pub recorded : lines_after ≡ lines_before ++ lines
+  pub rising : Rise (given_tickets gained)
   pub run : GainsRun process inputs options gained lines result

@@ -5,7 +5,7 @@ ghost use Rattle.run_core.specs.Limits.{IsWithinLimits};
 ghost use Rattle.run_rules.specs.Recorded.{lines_of};
 ghost use Rattle.run_rules.specs.Reports.{entries_of};
 ghost use Rattle.workflow_check.specs.Checked.{fault_in};
-ghost use Rattle.workflow_engine.specs.Blame.{HasRisingTickets, IsHostsFault};
+ghost use Rattle.workflow_engine.specs.Blame.{BlamesRecord, HasRisingTickets, IsHostsFault};
 ghost use Rattle.workflow_engine.specs.inner.Held.{Covers};
 ghost use Rattle.workflow_engine.specs.inner.Numbered.{AreNumbered};
 ghost use Rattle.workflow_engine.specs.inner.Told.{IsTold, MayBeTold};
@@ -33,7 +33,11 @@ use std::mem;
 ///
 /// The record is asked for the row of each job whose tool lets an earlier result be used, and to keep the row of each that was
 /// computed. As long as what it is kept on returns what was written, each of its answers is by its map, and the map at the end is
-/// that of the start after the commands that were done.
+/// that of the start after the commands that were done. Where a fault of the record is a row that it gave, that row isn't one of its
+/// job's tool (`run_rules::faults_came_of_answers`).
+///
+/// The tickets of its children rise, so no place is started more often than once and its retries
+/// (`run_rules::no_place_is_started_too_often`).
 ///
 /// The watcher is told of each question to the host or to the record, and of each answer, as they come.
 pub fn run<H: Host, R: Record, W: Watch>(
@@ -54,6 +58,8 @@ pub fn run<H: Host, R: Record, W: Watch>(
     // A fault is the host's only where its failures rose, by this very fault.
     ensures fault { IfErr result (IsHostsFault (H.log host.old) (H.log host.new)) }
     ensures rising { IfErr result HasRisingTickets }
+    // A fault of the record, and each note of one, has its line in the record's log.
+    ensures record { BlamesRecord (R.log rows.old) (R.log rows.new) result }
     ensures closed { H.running host.new ≡ [] }
 {
     each_has_least();

@@ -1,8 +1,9 @@
 //! The first plan of a run, which is made after looks alone.
-ghost use Rattle.std.specs.Prelude.{◌≡◌, All, IfOk, length, map, option_copied};
+ghost use Rattle.std.specs.Prelude.{◌≡◌, All, IfErr, IfOk, length, map, option_copied};
 ghost use Rattle.job_graph.specs.Jobs.{Job as Known};
 ghost use Rattle.job_graph.specs.PresentJobGraph.{AreWithin};
 ghost use Rattle.run_core.specs.Limits.{IsWithinLimits};
+ghost use Rattle.workflow_engine.specs.Blame.{IsHostsPlanFault, PlanBlamesRecord};
 ghost use Rattle.workflow_engine.specs.FirstPlan.{PlansByMap};
 ghost use Rattle.workflow_engine.specs.inner.Looks.{AreCostsOf, AsksHost, AsksRecord, KnowsFirst, PlansFound, PlansKnown, costs_with, has_archive, planned_of, row_in, told_first, told_plan};
 
@@ -45,6 +46,9 @@ pub fn plan_only<H: Host, R: Record, W: Watch>(
     ensures plans { PlansByMap (H.log host.old) (H.log host.new) (R.log rows.old) (R.log rows.new)
         (R.is_sound rows.old) (R.is_sound rows.new) (R.holds rows.old) (R.holds rows.new)
         process.now inputs.now options result }
+    // A fault is the host's only where its failures rose, by this very fault, and the record's only where its log has it.
+    ensures fault { IfErr result (IsHostsPlanFault (H.log host.old) (H.log host.new)) }
+    ensures record { IfErr result (PlanBlamesRecord (R.log rows.old) (R.log rows.new)) }
     ensures running { H.running host.new ≡ H.running host.old }
 {
     match known_first(alloc, host, process, inputs, watcher) {

@@ -5,7 +5,9 @@ use Rattle.run_rules.specs.declared.outcome.RunFault.{RunFault}
 use Rattle.run_rules.specs.declared.setting.Setting.{Setting}
 use Rattle.workflow_engine.proofs.Nothing.{nothing_asked, err_is}
 use Rattle.workflow_engine.proofs.Blamed.{hosts_fault}
+use Rattle.workflow_engine.proofs.Recorded.{blames_record}
 use Rattle.workflow_engine.proofs.ByMap.{nothing_kept}
+use Rattle.workflow_engine.proofs.Numbered.{none_numbered}
 use Rattle.workflow_engine.proofs.drive.run.Goals as goal
 
 pub returns-in_err-core-clause-run : goal.returns-in_err-core-clause-run
@@ -17,6 +19,7 @@ returns-in_err-core-clause-run g c =
         logged = sym (append-nil (g.H.Host.log c.args.host.now));
         lines = [];
         recorded = sym (append-nil (g.R.Record.log c.args.rows.now));
+        rising = (none_numbered 0).rising;
         run = record {
           transcript = [];
           entries = refl;
@@ -41,6 +44,7 @@ returns-clause-run g c =
         logged = c.close_all.ensures.logged ∙ c.drive.ensures.logged;
         lines = lines_of t;
         recorded = c.drive.ensures.recorded;
+        rising = c.drive.ensures.numbered.rising;
         run = record {
           transcript = t;
           entries = refl;
@@ -53,3 +57,13 @@ returns-clause-run g c =
 
 pub returns-clause-fault : goal.returns-clause-fault
 returns-clause-fault g c = hosts_fault _ _ _ _ (c.close_all.ensures.logged ∙ c.drive.ensures.logged) c.finish.ensures.faults
+
+pub returns-in_err-core-clause-record : goal.returns-in_err-core-clause-record
+returns-in_err-core-clause-record g c =
+    let none : c.from_residual.result ≡ Err RunFault.OutOfMemory = err_is c.from_residual.result _ RunFault.OutOfMemory c.from_residual.ensures.1 (λ e same. same ∙ c.in_err-core.ensures.err) in
+    rw none (record { gained = []; logged = sym (append-nil _); told = tt })
+
+pub returns-clause-record : goal.returns-clause-record
+returns-clause-record g c =
+    let ran = returns-clause-run g c in
+    blames_record _ _ _ _ _ _ _ _ ran.run.recorded ran.run.run

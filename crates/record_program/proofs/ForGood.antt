@@ -1,0 +1,18 @@
+-- What is forgotten in an open record is forgotten in its file.
+use Rattle.std.proofs.Common.{List, ℕ, Option, Some, None, sym, subst}
+use Rattle.sqlite_disk.specs.declared.Disk.{Ghosts}
+use Rattle.sqlite_disk.specs.declared.Files.{Files}
+use Rattle.sqlite_store.specs.declared.store.FileStore.{FileStore}
+use Rattle.sqlite.specs.State.{HasCleanDisk}
+use Rattle.sqlite.specs.Held.{Held}
+use Rattle.sqlite.specs.Files.{over_files, file_state}
+use Rattle.job_record.specs.Map.{IsRecord}
+use Rattle.record_program.specs.declared.ending.Ending.{Ending}
+use Rattle.record_program.specs.Forgetting.{ForgetsFirst}
+use Rattle.record_program.specs.Closing.{ForgetsForGood, ClosesAs}
+
+pub for_good : {D : Type 0} (g : Ghosts D) (sum : List ℕ) (old last : Held (FileStore D g)) (before after : Ending) (files : Option (Files D))
+    → (HasCleanDisk (file_state last) → IsRecord (file_state old) → ForgetsFirst over_files old last sum before) → ClosesAs g last before after files → ForgetsForGood g sum old after files
+for_good g sum old last before after (Some files) forgets closes =
+    λ clean it. let copied = closes.1 clean in (last, subst (λ e. ForgetsFirst over_files old last sum e) (sym closes.0) (forgets copied.was_clean it), copied)
+for_good g sum old last before after None forgets closes = closes
