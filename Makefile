@@ -15,8 +15,8 @@ package:
 
 # The minutes are of four shared processors of two cores, beside other work.
 help:
-	@echo "make               prove and build the program, and print its path (about an hour where nothing is kept, a minute or two after the gate)"
-	@echo "make install       put the proved program there as PREFIX/bin/deparohi, PREFIX=DIR names the place"
+	@echo "make               prove and build the program, and print its path (hours if nothing is kept, a minute or two after the gate)"
+	@echo "make install       put the proved program, the command deparohi and the importer below PREFIX, PREFIX=DIR names the place"
 	@echo "make package       put the proved program into a Debian package in out/, and try to install it there (as make)"
 	@echo "make demo          run the worked example, unproved, for a first look (5 minutes the first time, then a second)"
 	@echo "make try           run the program on your own files, unproved: ARGS=\"run DOCUMENT INPUTS\" has its words (5 minutes the first time, then a second)"
@@ -26,7 +26,7 @@ help:
 	@echo "make since         which crates changed since a revision, what stands above them, what to run: REV=commit (a second)"
 	@echo "make new           begin a crate: NAME=name, ON=\"crate ..\" are those that it stands on (a second)"
 	@echo "make test          the whole gate: every proof that is not kept, the tests, the programs, the wrong bodies in must-fail/, the importer,"
-	@echo "                   the examples, a package (94 minutes from nothing, when last kept: docs/gate.md)"
+	@echo "                   the examples, a package (minutes over kept proofs, two to three hours from nothing: docs/work/gate.md)"
 	@echo "make gate-cost     what the last gate cost, by crate and part (a second)"
 	@echo "make wrong-bodies  try all wrong bodies over what \`rt check\` keeps (several hours); NAME=crate: those of one crate (3 to 40 minutes), NAME=crate/edit: one"
 

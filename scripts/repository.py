@@ -1,6 +1,5 @@
 """What the scripts of this folder share: the crates of crates.txt, their lines and their order."""
 
-import hashlib
 import os
 import re
 import shutil
@@ -59,6 +58,13 @@ def text_of(file):
         return it.read()
 
 
+def test_crates():
+    """Returns the crates that are tests or benches: those of scripts/test-crates.txt, and no others."""
+    file = f"{TOP}/scripts/test-crates.txt"
+    rows = text_of(file).splitlines() if os.path.isfile(file) else []
+    return {it.strip() for it in rows if it.strip() and not it.startswith("#")}
+
+
 def lines(name):
     """Returns how many lines of code, definitions and proofs the crate has."""
     return sum(text_of(it).count("\n") for it in files(name, ".rt", ".antt"))
@@ -75,16 +81,20 @@ def edits(folder):
     return [f"{folder}/{it}" for it in sorted(os.listdir(folder)) if it.endswith(".edit")]
 
 
-def text_sum(name):
-    """Returns a short hash of the crate's code and definitions: of src/ and specs/."""
-    held, top = hashlib.sha256(), f"{TOP}/crates/{name}"
-    for path in sorted(os.path.relpath(it, top) for it in files(name, ".rt", ".antt")):
-        if not path.startswith("proofs/"):
-            held.update(f"{path}\n{text_of(f'{top}/{path}')}".encode())
-    return held.hexdigest()[:12]
+def bare(text, comment):
+    """Returns a text of code (whose comments begin with `//`) or of definitions (`--`) without comments and layout."""
+    kept = re.sub(rf'("(?:[^"\\]|\\.)*")|{comment}[^\n]*', lambda it: it[1] or " ", text)
+    return " ".join(kept.split())
 
 
 def why_of(edit):
     """Returns what the edit is, in words: its line `why:`, or nothing."""
     held = re.search(r"(?m)^why: (.*)$", text_of(edit))
     return held[1].strip() if held else ""
+
+
+def version():
+    """Returns the program's version, which stands in one place: in the text of the program. (Tests look at repositories without it.)"""
+    file = f"{TOP}/crates/program_words/src/version.rt"
+    found = re.search(r'VERSION: &str = "([^"]+)"', text_of(file)) if os.path.isfile(file) else None
+    return found[1] if found else ""

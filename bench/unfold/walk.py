@@ -1,6 +1,6 @@
 """What a process makes known while its jobs end: the jobs that can run, who made their files, which are needed, and the outputs.
 
-It is written from the standard and from docs/formats.md, apart from the runner, and keeps nothing from one look to the next: `look`
+It is written from the standard and from docs/reference/codes.md, apart from the runner, and keeps nothing from one look to the next: `look`
 walks the whole process anew for the jobs that have ended.
 """
 
