@@ -10,6 +10,7 @@ import unittest
 
 from .helping import HERE, InFolder
 
+from deparohi_import.choices import Choices
 from deparohi_import.fault import ImportFault
 from deparohi_import.folder import Folder
 from deparohi_import.importing import Import
@@ -48,7 +49,7 @@ def inputs_of(document):
 class Versions(InFolder):
     def imported_file(self, path: str, name: str):
         folder = Folder(os.path.join(self.path, name))
-        written = Import(folder, set(), evaluates=False)
+        written = Import(folder, set(), Choices(evaluates=False))
         written_name = written.document(path)
         folder.write("")
         with open(os.path.join(folder.path, written_name), encoding="utf-8") as it:
