@@ -41,10 +41,10 @@ changed_by_all (change ∷ changes) map = changed_by_all changes (changed_by cha
 
 -- ---- what each command answers of the map, and what the map is after it; `Holds` says which maps the record then is
 
--- `find` gives the row of the key, says that there is none, or is refused by R1 for what does not read; the map stays
+-- `find` gives the row of the key, which has this key, says that there is none, or is refused by R1 for what does not read; the map stays
 abbrev pub Finds : RowMap → List ℕ → Result (Option Row) RecordError → Type 0
 Finds map key (Ok None) = map key ≡ None
-Finds map key (Ok (Some row)) = map key ≡ Some (reads row)
+Finds map key (Ok (Some row)) = (map key ≡ Some (reads row)) × (row.key ≡ key)
 Finds map key (Err (Refused NotARecord)) = map key ≡ Some unread
 Finds map key (Err (Refused WrongVersion)) = ⊥
 Finds map key (Err (Refused NoRow)) = ⊥

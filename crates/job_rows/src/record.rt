@@ -1,4 +1,4 @@
-ghost use Rattle.std.specs.Prelude.{◌≡◌, ◌++◌, List};
+ghost use Rattle.std.specs.Prelude.{◌≡◌, ◌++◌, List, IfOk, IfSome};
 ghost use Rattle.job_rows.specs.declared.log.Entry.{Entry};
 ghost use Rattle.job_rows.specs.declared.log.Command.TheVariants as command;
 ghost use Rattle.job_rows.specs.Log.{entries_of, told_of};
@@ -21,10 +21,11 @@ pub trait Record {
     /// These rows, and no others, are what the record holds.
     ghost holds: { Self → RowMap → Type 0 };
 
-    /// Returns the row of a key, if there is one. R1 where it does not read.
+    /// Returns the row of a key, if there is one: it has this key, whatever state the record is in. R1 if it doesn't read.
     fn find(&mut self, key: &Text) -> Result<Option<Row>, RecordError>
         ensures logged { log self.new ≡ log self.old
             ++ entries_of command.Find key.now (told_of result) }
+        ensures keyed { IfOk result (λ found. IfSome found (λ row. row.key ≡ key.now)) }
         ensures sound { is_sound self.new → is_sound self.old }
         ensures finds { is_sound self.new → (map : RowMap) → holds self.old map
             → Finds map key.now result × holds self.new map };

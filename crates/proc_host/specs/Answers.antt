@@ -1,6 +1,7 @@
 -- Which answers each call can have, and which children are in flight after one.
 use Rattle.std.specs.Prelude.{ℕ, ◌≤◌, Bool, IsTrue, List, [], ◌∷◌, ◌++◌, length, bytes_eq, Contains}
 use Rattle.std.specs.List.{list_all, list_any}
+use Rattle.collected_outputs.specs.Listing.{are_paths}
 use Rattle.command_line.specs.declared.launch.Launch.{Launch}
 use Rattle.proc_host.specs.declared.call.HostAnswer.{HostAnswer}
 use Rattle.proc_host.specs.declared.call.HostFault.{HostFault}
@@ -28,14 +29,14 @@ abbrev pub are_among : List Found → List Found → Bool
 are_among files found = list_all (λ entry. list_any (λ file. bytes_eq file.name entry.name) files) found
 
 -- an answer that a call can give where these children run: a new ticket is none of theirs, a child that ended is one of
--- them, no more is read of a file than was asked for, and nothing is fetched that was not
+-- them, what is listed stands below the folder, no more is read of a file than was asked for, and nothing is fetched that was not
 pub data CanAnswer (running : List ℕ) : HostRequest → HostAnswer → Type 0 where
   is_measured : (path : List ℕ) (measure : Measure) → CanAnswer running (HostRequest.Measure path) (HostAnswer.Measured measure)
   is_staged : (plan : StagePlan) (number : ℕ) → CanAnswer running (HostRequest.Stage plan number) HostAnswer.Done
   is_started : (launch : Launch) (ticket : ℕ) → IsFresh ticket running →
       CanAnswer running (HostRequest.Start launch) (HostAnswer.Started ticket)
   has_ended : (ending : ChildEnd) → Contains running ending.ticket → CanAnswer running HostRequest.Collect (HostAnswer.Ended ending)
-  is_listed : (folder : List ℕ) (found : List Found) → CanAnswer running (HostRequest.Scan folder) (HostAnswer.Listed found)
+  is_listed : (folder : List ℕ) (found : List Found) → IsTrue (are_paths found) → CanAnswer running (HostRequest.Scan folder) (HostAnswer.Listed found)
   is_read : (path : List ℕ) (limit : ℕ) (bytes : List ℕ) → length bytes ≤ limit →
       CanAnswer running (HostRequest.Head path limit) (HostAnswer.FirstBytes bytes)
   is_fetched : (key : List ℕ) (number : ℕ) (files found : List Found) → IsTrue (are_among files found) →

@@ -1,4 +1,5 @@
 ghost use Rattle.std.specs.Prelude.{◌≡◌, ◌≢◌, ◌≤◌, ◌+◌, ◌++◌, List, ℕ, [], length, IfOk, IsTrue, Contains};
+ghost use Rattle.collected_outputs.specs.Listing.{are_paths};
 ghost use Rattle.proc_host.specs.declared.call.Entry.{Entry};
 ghost use Rattle.proc_host.specs.Answers.{are_among, fault_of};
 ghost use Rattle.proc_host.specs.Log.{answer_behind, entries_of, starts, FailsOnlyBy};
@@ -56,12 +57,13 @@ pub trait Host {
         ensures child { IfOk result (λ ending. Contains (running self.old) ending.ticket) }
         ensures running { running self.new ≡ running self.old };
 
-    /// Lists what is below a folder.
+    /// Lists what is below a folder, by paths that begin there.
     fn scan(&mut self, folder: &Text) -> Result<Items<Found>, HostError>
         ensures logged { log self.new ≡ log self.old
             ++ entries_of (HostRequest.Scan folder.now)
             (answer_behind (λ found. HostAnswer.Listed found) result) }
         ensures own { FailsOnlyBy (fault_of (HostRequest.Scan folder.now)) result }
+        ensures paths { IfOk result (λ found. IsTrue (are_paths found)) }
         ensures running { running self.new ≡ running self.old };
 
     /// Reads the first bytes of a file, at most `limit`.

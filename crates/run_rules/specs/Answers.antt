@@ -1,5 +1,6 @@
 -- Which answers a request can have.
-use Rattle.std.specs.Prelude.{ℕ, List, Option}
+use Rattle.std.specs.Prelude.{◌≡◌, ℕ, List, Option}
+use Rattle.std.specs.Option.{IfSome}
 use Rattle.job_rows.specs.declared.refusal.RecordRefusal.{RecordRefusal}
 use Rattle.job_rows.specs.declared.row.Row.{Row}
 use Rattle.proc_host.specs.Answers.{CanAnswer, flying_with}
@@ -11,9 +12,9 @@ use Rattle.run_rules.specs.declared.request.RecordRequest.{RecordRequest}
 use Rattle.run_rules.specs.declared.request.Request.{Request}
 use Rattle.job_graph.specs.Words.{JobPlace}
 
--- an answer that a record can give to a command
+-- an answer that a record can give to a command: a row that is found has the key that was asked for
 pub data CanTell : RecordRequest → RecordAnswer → Type 0 where
-  is_found : (key : List ℕ) (row : Option Row) → CanTell (RecordRequest.Find key) (RecordAnswer.Found row)
+  is_found : (key : List ℕ) (row : Option Row) → IfSome row (λ found. found.key ≡ key) → CanTell (RecordRequest.Find key) (RecordAnswer.Found row)
   is_put : (row : Row) → CanTell (RecordRequest.Put row) RecordAnswer.Done
   is_dropped : (key : List ℕ) → CanTell (RecordRequest.DropArchive key) RecordAnswer.Done
   is_refused : (request : RecordRequest) (refusal : RecordRefusal) → CanTell request (RecordAnswer.Refused refusal)
