@@ -30,6 +30,26 @@ fn nested_list(alloc: Global, levels: u64) -> Result<String, AllocError> {
     Ok(text)
 }
 
+/// How many bytes the row's `text` has, and how many of its strict prefixes are refused otherwise than as no JSON, or not at all.
+pub(crate) fn read_prefixes(alloc: Global, row: &Row) -> Result<String, RowFault> {
+    let text = row.text("text")?.as_bytes();
+    let mut others: u64 = 0;
+    for end in 0..text.len() {
+        if !is_no_json(alloc, &text[..end])? {
+            others = others.saturating_add(1);
+        }
+    }
+    Ok(format!(in alloc; "[{},{others}]", text.len())?)
+}
+
+fn is_no_json(alloc: Global, text: &[u8]) -> Result<bool, RowFault> {
+    match read_document(alloc, text) {
+        Err(DocumentError::Refused(fault)) => Ok(fault.code() == "C1"),
+        Err(DocumentError::OutOfMemory) => Err(RowFault::OutOfMemory),
+        Ok(_) => Ok(false),
+    }
+}
+
 fn answer(alloc: Global, text: &str) -> Result<String, RowFault> {
     let found = read_document(alloc, text.as_bytes());
     found_text(alloc, &found)

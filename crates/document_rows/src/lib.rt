@@ -9,6 +9,7 @@ use std::alloc::Global;
 
 mod accepted;
 mod arguments;
+mod costs;
 mod documents;
 mod ends;
 mod launches;
@@ -40,6 +41,8 @@ fn of_documents(alloc: Global, row: &Row) -> Result<String, RowFault> {
         "needed_docs" => linked::needed(alloc, row),
         "read_written" => process::read_written(alloc, row),
         "read_type" => types::read(alloc, row),
+        "fits" => types::fits_type(alloc, row),
+        "prefixes_of_document" => documents::read_prefixes(alloc, row),
         _ => Err(RowFault::UnknownCall),
     }
 }
@@ -50,6 +53,7 @@ fn of_processes(alloc: Global, row: &Row) -> Result<String, RowFault> {
         "copied_launch" => launches::answer(alloc, row, true),
         "accept" => accepted::answer(alloc, row),
         "unfold" => unfold::answer(alloc, row),
+        "load_cost" => costs::answer(alloc, row),
         "unfold_orders" => orders::answer(alloc, row),
         "step_input" | "value_froms" | "when_value" => step_inputs::answer(alloc, row),
         _ => Err(RowFault::UnknownCall),

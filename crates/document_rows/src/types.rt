@@ -1,4 +1,5 @@
 //! Reads the types of rows, and writes them as lists of members.
+use crate::arguments::value_of;
 use crate::documents::told;
 use cwl_types::{ArrayType, ItemBinding, MemberType, PlainType, read_type};
 use document_table::{Form, fault_in};
@@ -6,6 +7,7 @@ use plain_data::Text;
 use row_io::{AnswerText, Row, RowFault};
 use serde_json::Value;
 use std::alloc::Global;
+use type_check::fits;
 
 /// The members of the row's type, or its fault.
 pub(crate) fn read(alloc: Global, row: &Row) -> Result<String, RowFault> {
@@ -14,6 +16,19 @@ pub(crate) fn read(alloc: Global, row: &Row) -> Result<String, RowFault> {
         Some(fault) => Ok(told(alloc, &fault)?),
         None => read_members(alloc, value),
     }
+}
+
+/// Whether the row's value fits its type, or the type's fault.
+pub(crate) fn fits_type(alloc: Global, row: &Row) -> Result<String, RowFault> {
+    let kind = row.json("type")?;
+    if let Some(fault) = fault_in(alloc, Form::Type, kind)? {
+        return Ok(told(alloc, &fault)?);
+    }
+    let value = value_of(alloc, row.json("value")?)?;
+    let members = read_type(alloc, kind)?;
+    let mut out = AnswerText::new(alloc);
+    out.put_flag(fits(&value, &members));
+    out.finish()
 }
 
 fn read_members(alloc: Global, value: &Value) -> Result<String, RowFault> {
