@@ -16,6 +16,7 @@ mod listing;
 mod matches;
 mod nesting;
 mod object;
+mod paths;
 mod patterns;
 mod placed;
 mod secondary;
@@ -32,3 +33,4 @@ pub use laws::{
     some_heads_are_wanted,
 };
 pub use object::{MOST_OBJECT, OUTPUT_OBJECT};
+pub use paths::{are_paths, is_path};

@@ -1,8 +1,6 @@
 //! The files beside an output's files.
-ghost use Rattle.std.specs.Prelude.{◌≡◌, ◌==◌, ◌++◌, Ok, IfOk, IfErr, OnOk, string_bytes, map};
-ghost use Rattle.std.specs.List.{list_any};
+ghost use Rattle.std.specs.Prelude.{◌≡◌, ◌++◌, Ok, IfOk, IfErr, OnOk, string_bytes, map};
 ghost use Rattle.std.specs.Option.{option_copied, option_to_list};
-ghost use Rattle.cwl_value.specs.Reading.{is_name};
 ghost use Rattle.cwl_value.specs.declared.value.FileVal.{out-FileVal};
 ghost use Rattle.collected_outputs.specs.Beside as spec;
 ghost use Rattle.collected_outputs.specs.Values.{value_under};
@@ -11,6 +9,7 @@ ghost use Rattle.collected_outputs.specs.Gives.{Refuses, all_given};
 
 use crate::fault::{CollectFault, Stop};
 use crate::listing::Entry;
+use crate::paths::may_name;
 use crate::values::{basename_of, push_value};
 use cwl_process::SecondaryFile;
 use cwl_value::{FileVal, Place, Value, is_taken, items_by_value};
@@ -203,16 +202,4 @@ fn beside(alloc: Global, primary: &str, name: &str) -> Result<String, AllocError
         }
         None => String::from_str(alloc, name),
     }
-}
-
-fn may_name(name: &str) -> bool
-    ensures { result ≡ is_name name.now }
-{
-    !(name.is_empty() || name == "." || name == ".." || has_slash(name))
-}
-
-fn has_slash(name: &str) -> bool
-    ensures { result ≡ list_any (λ c. c == 47) name.now }
-{
-    name.as_bytes().iter().any(|byte| *byte == b'/')
 }
