@@ -1,6 +1,6 @@
--- What `put` and `drop_archive` make of rows that are kept in memory.
-use Rattle.std.proofs.Common.{◌≡◌, inl, inr, ℕ, Bool, true, false, cond, List, Option, Some, option_map, Result, Ok, Err, bytes_eq, if◌then◌else◌, refl, sym, ap, ◌∙◌}
-use Rattle.std.specs.Prelude.{OnOk, OnErr, IfErr}
+-- What `find` gives of rows that are kept in memory, and what `put` and `drop_archive` make of them.
+use Rattle.std.proofs.Common.{◌≡◌, inl, inr, ℕ, Bool, true, false, cond, List, Option, Some, None, option_map, Result, Ok, Err, bytes_eq, if◌then◌else◌, refl, sym, ap, subst, ◌∙◌}
+use Rattle.std.specs.Prelude.{OnOk, OnErr, IfOk, IfErr, IfSome}
 use Rattle.std.specs.Cmp.Lexicographic.{bytes_decides}
 use Rattle.plain_data.specs.ByName.{value_at, with_value}
 use Rattle.plain_data.proofs.Lookup.{value_at-with_value}
@@ -8,8 +8,43 @@ use Rattle.job_rows.specs.declared.row.Row.{Row}
 use Rattle.job_rows.specs.declared.refusal.RecordError.{RecordError}
 use Rattle.job_rows.specs.declared.refusal.RecordError.TheVariants.{Refused, OutOfMemory}
 use Rattle.job_rows.specs.declared.refusal.RecordRefusal.TheVariants.{NotARecord, WrongVersion, NoRow, Store}
-use Rattle.job_rows.specs.Map.{Kept, reads, RowMap, changed_by, sets, unarchives, unarchived, Puts, Drops}
-use Rattle.job_rows.specs.Memory.{IsMapOf, Unarchives, RefusesToUnarchive}
+use Rattle.job_rows.specs.Map.{Kept, reads, RowMap, changed_by, sets, unarchives, unarchived, Finds, Puts, Drops}
+use Rattle.job_rows.specs.Memory.{HaveTheirKeys, IsMapOf, Unarchives, RefusesToUnarchive}
+
+-- ---- each row stands under its own key
+
+keyed_at : (b : Bool) (key : List ℕ) (row : Row) (o : Option Row) → (b ≡ true → row.key ≡ key) → IfSome o (λ other. other.key ≡ key) → IfSome (cond b (Some row) o) (λ other. other.key ≡ key)
+keyed_at true key row o its are = its refl
+keyed_at false key row o its are = are
+
+set_keyed : (name : List ℕ) (row : Row) (rows : List (List ℕ × Row)) → row.key ≡ name → HaveTheirKeys rows → HaveTheirKeys (with_value name row rows)
+set_keyed name row rows its are key =
+    subst (λ o. IfSome o (λ other. other.key ≡ key)) (sym (value_at-with_value key name row rows))
+    (keyed_at (bytes_eq key name) key row (value_at key rows) (λ same. its ∙ sym ((bytes_decides key name).0 same)) (are key))
+
+module _ (old new : List (List ℕ × Row)) (are : HaveTheirKeys old) where
+  pub put_keyed : (row : Row) (result : Result (Unit {0}) RecordError) → OnOk result (new ≡ with_value row.key row old) → OnErr result (new ≡ old) → HaveTheirKeys new
+  put_keyed row (Ok done) ok err = subst HaveTheirKeys (sym ok) (set_keyed row.key row old refl are)
+  put_keyed row (Err e) ok err = subst HaveTheirKeys (sym err) are
+
+  pub drop_keyed : (key : List ℕ) (result : Result (Unit {0}) RecordError) → OnOk result (Unarchives key old new) → OnErr result (new ≡ old) → HaveTheirKeys new
+  drop_keyed key (Ok done) ok same =
+      let its : ok.0.key ≡ key = subst (λ o. IfSome o (λ row. row.key ≡ key)) ok.1 (are key) in
+      subst HaveTheirKeys (sym ok.2) (set_keyed key (record ok.0 { archived = false }) old its are)
+  drop_keyed key (Err e) ok same = subst HaveTheirKeys (sym same) are
+
+-- ---- what each call answers
+
+module _ (rows : List (List ℕ × Row)) (are : HaveTheirKeys rows) (key : List ℕ) where
+  pub found_keyed : (result : Result (Option Row) RecordError) → IfOk result (λ found. found ≡ value_at key rows) → IfOk result (λ found. IfSome found (λ row. row.key ≡ key))
+  found_keyed (Ok found) is = subst (λ o. IfSome o (λ row. row.key ≡ key)) (sym is) (are key)
+  found_keyed (Err e) is = tt
+
+  pub finds : (map : RowMap) → IsMapOf rows map → (result : Result (Option Row) RecordError) → IfOk result (λ found. found ≡ value_at key rows) → IfErr result (λ e. e ≡ OutOfMemory) → Finds map key result
+  finds map is (Ok None) found memory = is key ∙ ap (option_map reads) (sym found)
+  finds map is (Ok (Some row)) found memory = (is key ∙ ap (option_map reads) (sym found), found_keyed (Ok (Some row)) found)
+  finds map is (Err OutOfMemory) found memory = tt
+  finds map is (Err (Refused refusal)) found memory = absurd (let e = memory in cc)
 
 set_at : (b : Bool) (row : Row) (kept : Option Kept) (o : Option Row) → kept ≡ option_map reads o → (if b then Some (reads row) else kept) ≡ option_map reads (cond b (Some row) o)
 set_at true row kept o is = refl

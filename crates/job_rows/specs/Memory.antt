@@ -1,5 +1,5 @@
 -- A record that is kept in memory alone.
-use Rattle.std.specs.Prelude.{◌≡◌, ◌⊎◌, ℕ, false, List, Some, None, option_map}
+use Rattle.std.specs.Prelude.{◌≡◌, ◌⊎◌, ℕ, false, List, Some, None, option_map, IfSome}
 use Rattle.plain_data.specs.ByName.{value_at, with_value}
 use Rattle.job_rows.specs.declared.row.Row.{Row}
 use Rattle.job_rows.specs.declared.log.Entry.{Entry}
@@ -12,6 +12,10 @@ use Rattle.job_rows.specs.Map.{reads, RowMap}
 pub record MemoryState : Type 0 where
   pub rows : List (List ℕ × Row)
   pub log : List Entry
+
+-- each row stands under its own key
+abbrev pub HaveTheirKeys : List (List ℕ × Row) → Type 0
+HaveTheirKeys rows = (key : List ℕ) → IfSome (value_at key rows) (λ row. row.key ≡ key)
 
 -- the map has these rows and nothing else
 abbrev pub IsMapOf : List (List ℕ × Row) → RowMap → Type 0

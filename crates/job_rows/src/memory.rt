@@ -1,4 +1,4 @@
-ghost use Rattle.std.specs.Prelude.{◌≡◌, ◌++◌, [], IfOk, IfErr, OnOk, OnErr};
+ghost use Rattle.std.specs.Prelude.{◌≡◌, ◌++◌, [], IfOk, IfSome, IfErr, OnOk, OnErr};
 ghost use Rattle.plain_data.specs.ByName.{value_at, with_value};
 ghost use Rattle.job_rows.specs.declared.log.Command.TheVariants as command;
 ghost use Rattle.job_rows.specs.declared.refusal.RecordError.TheVariants.{OutOfMemory};
@@ -31,7 +31,11 @@ impl Model for MemoryRecord {
 
     ghost coded = { Prim.hlevel (codes, value.the_row.coded) };
 
+    ghost use Rattle.job_rows.specs.Memory.{HaveTheirKeys};
+
     ghost view = { λ fields. record { rows = fields.rows; log = fields.log.items } };
+
+    ghost invariant = { λ fields. HaveTheirKeys fields.rows };
 }
 
 impl MemoryRecord {
@@ -64,6 +68,7 @@ impl Record for MemoryRecord {
     fn find(&mut self, key: &Text) -> Result<Option<Row>, RecordError>
         ensures logged { self.new.log ≡ self.old.log
             ++ entries_of command.Find key.now (told_of result) }
+        ensures keyed { IfOk result (λ found. IfSome found (λ row. row.key ≡ key.now)) }
         ensures sound { Unit {0} → Unit {0} }
         ensures finds { Unit {0} → (map : RowMap) → IsMapOf self.old.rows map
             → Finds map key.now result × IsMapOf self.new.rows map }
