@@ -1,5 +1,6 @@
 -- What the script says next is what the answer tells.
 use Rattle.std.proofs.Common.{◌≡◌, ℕ, zero, suc, ◌+◌, ◌<◌, List, [], ◌∷◌, ◌++◌, cond, Option, Some, length, drop, slice_get, nat_le, refl, arith, true}
+use Rattle.collected_outputs.specs.Listing.{are_paths}
 use Rattle.command_line.specs.declared.launch.Launch.{Launch}
 use Rattle.proc_host.specs.declared.call.HostAnswer.TheVariants as answers
 use Rattle.proc_host.specs.declared.call.HostRequest.TheVariants as requests
@@ -24,8 +25,8 @@ pub end_told : (state : ScriptState) (ending : ChildEnd) (reply : Option Reply) 
 end_told state ending reply next can = rw (next, can) refl
 
 pub scan_told : (state : ScriptState) (folder : List ℕ) (found : List Found) (reply : Option Reply) → reply ≡ Some (replies.Scan found) →
-    answers.Listed found ≡ answer_by state (requests.Scan folder) reply
-scan_told state folder found reply next = rw next refl
+    are_paths found ≡ true → answers.Listed found ≡ answer_by state (requests.Scan folder) reply
+scan_told state folder found reply next paths = rw (next, paths) refl
 
 pub measure_told : (state : ScriptState) (path : List ℕ) (measure : Measure) (reply : Option Reply) → reply ≡ Some (replies.Measure measure) →
     answers.Measured measure ≡ answer_by state (requests.Measure path) reply

@@ -1,6 +1,7 @@
 -- What a host that answers from a script answers.
 use Rattle.std.specs.Prelude.{◌≡◌, ◌≤◌, ℕ, ◌+◌, ◌==◌, nat_le, Bool, ◌&&◌, if◌then◌else◌, List, [], ◌∷◌, ◌++◌, Option, Some, None, length, drop, slice_get}
 use Rattle.std.specs.List.{list_any}
+use Rattle.collected_outputs.specs.Listing.{are_paths}
 use Rattle.proc_host.specs.declared.call.Entry.{Entry}
 use Rattle.proc_host.specs.declared.call.HostAnswer.{HostAnswer}
 use Rattle.proc_host.specs.declared.call.HostAnswer.TheVariants as answers
@@ -36,7 +37,7 @@ answer_by state (requests.Start launch) (Some replies.Start) = answers.Started (
 answer_by state (requests.Start launch) _ = answers.Failed faults.Start
 answer_by state requests.Collect (Some (replies.Collect ending)) = if can_end state ending then answers.Ended ending else answers.Failed faults.Collect
 answer_by state requests.Collect _ = answers.Failed faults.Collect
-answer_by state (requests.Scan folder) (Some (replies.Scan found)) = answers.Listed found
+answer_by state (requests.Scan folder) (Some (replies.Scan found)) = if are_paths found then answers.Listed found else answers.Failed faults.Scan
 answer_by state (requests.Scan folder) _ = answers.Failed faults.Scan
 answer_by state (requests.Head path limit) (Some (replies.Head bytes)) = if nat_le (length bytes) limit then answers.FirstBytes bytes else answers.Failed faults.Head
 answer_by state (requests.Head path limit) _ = answers.Failed faults.Head

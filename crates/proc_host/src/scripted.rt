@@ -1,5 +1,6 @@
 ghost use Rattle.std.specs.Prelude.{◌≡◌, ◌≤◌, ◌+◌, ◌++◌, ◌∷◌, ◌↔◌, ℕ, List, [], IfOk, OnOk, OnErr, IfSome, IfNone, IsTrue, bytes_eq, length, nat_le, slice_get, Contains};
 ghost use Rattle.std.specs.List.{list_any};
+ghost use Rattle.collected_outputs.specs.Listing.{are_paths};
 ghost use Rattle.proc_host.specs.Answers.{are_among as among};
 ghost use Rattle.proc_host.specs.Log.{answer_behind, answer_behind_error, entries_of, starts, FailsOnlyBy, IsOnly};
 ghost use Rattle.proc_host.specs.Tickets.{IsFresh, running_after, without};
@@ -13,6 +14,7 @@ use crate::{
     ChildEnd, Entry, Host, HostAnswer, HostError, HostFault, HostRequest, Reply, Ticket,
     fetch_request, store_request,
 };
+use collected_outputs::are_paths;
 use command_line::Launch;
 use plain_data::{Items, Text};
 use staging::{Found, Measure, StagePlan, listing_in};
@@ -22,8 +24,8 @@ use std::marker::Model;
 /// A host that answers from a list, for tests and for showing a run.
 ///
 /// Ticket numbers count its starts, from 1. A call that the script doesn't answer next fails, and so does a
-/// collect of a child that doesn't run, or before `least_started` children were started. A call that fails
-/// leaves the script where it is.
+/// collect of a child that doesn't run, or before `least_started` children were started, and a scan if a
+/// name that is listed is no path below the folder. A call that fails leaves the script where it is.
 #[derive(Drop)]
 pub struct Scripted {
     alloc: Global,
@@ -129,17 +131,23 @@ impl Scripted {
         None
     }
 
-    // The listing that the script tells next.
+    // The listing that the script tells next, if what it lists stands below the folder.
     fn next_listing(&self) -> Result<Option<Items<Found>>, AllocError>
         ensures told { IfOk result (λ next. IfSome next (λ found. slice_get self.now.script 0
             ≡ Some (Reply.Scan found))) }
+        ensures paths { IfOk result (λ next. IfSome next (λ found. IsTrue (are_paths found))) }
         ensures none { IfOk result (λ next. IfNone next ((found : List Found)
-            → slice_get self.now.script 0 ≡ Some (Reply.Scan found) → ⊥)) }
+            → slice_get self.now.script 0 ≡ Some (Reply.Scan found)
+            → IsTrue (are_paths found) → ⊥)) }
     {
         let Some(Reply::Scan(found)) = self.script.get(self.given) else {
             return Ok(None);
         };
-        Ok(Some(listing_in(self.alloc, found)?))
+        if !are_paths(found.as_slice()) {
+            return Ok(None);
+        }
+        let listed = listing_in(self.alloc, found)?;
+        Ok(Some(listed))
     }
 
     // What the script next says that there is.
@@ -320,6 +328,7 @@ impl Host for Scripted {
             ++ entries_of (HostRequest.Scan folder.now)
             (answer_behind (λ found. HostAnswer.Listed found) result) }
         ensures own { FailsOnlyBy HostFault.Scan result }
+        ensures paths { IfOk result (λ found. IsTrue (are_paths found)) }
         ensures running { self.new.running ≡ self.old.running }
         ensures scripted { Answers self.old (HostRequest.Scan folder.now)
             (answer_behind (λ found. HostAnswer.Listed found) result) self.new }
