@@ -3,6 +3,7 @@ pub mod Same
 pub mod Picking
 pub mod Planning
 pub mod Measured
+pub mod InOrder
 pub mod Delivered
 pub mod Asked
 pub mod Going

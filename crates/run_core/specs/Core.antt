@@ -1,27 +1,25 @@
 -- What each call of the machine does.
-use Rattle.std.specs.Prelude.{◌≡◌, ◌≢◌, ◌<◌, ◌≤◌, ℕ, List, [], ◌∷◌, ◌++◌, Option, Some, None, Result, Err, IfErr, OnOk, OnErr}
+use Rattle.std.specs.Prelude.{◌≡◌, ◌≢◌, ◌<◌, ℕ, List, [], ◌∷◌, ◌++◌, Option, Some, None, Result, Err, IfErr, OnOk, OnErr}
 use Rattle.document_links.specs.declared.process.Process.{Process}
 use Rattle.plan_checker.specs.Certificate.{IsCertificate}
-use Rattle.plan_checker.specs.declared.plan.Mark.{Mark}
 use Rattle.run_rules.specs.declared.outcome.RunFault.{RunFault}
 use Rattle.run_rules.specs.declared.request.Answer.{Answer}
 use Rattle.run_rules.specs.declared.request.Request.{Request}
 use Rattle.run_rules.specs.declared.request.Pair.{Pair}
 use Rattle.run_rules.specs.declared.setting.Options.{Options}
-use Rattle.run_rules.specs.Allowed.{Allowed, MayFetch, MayStage}
+use Rattle.run_rules.specs.Allowed.{Allowed}
 use Rattle.run_rules.specs.Answers.{MayAnswer, flying_after}
-use Rattle.run_rules.specs.Events.{Progress, unfolding_at}
-use Rattle.run_rules.specs.Plans.{PlansSoFar, no_plans, number_of}
+use Rattle.run_rules.specs.Events.{Progress}
+use Rattle.run_rules.specs.Plans.{PlansSoFar, no_plans}
 use Rattle.run_rules.specs.Reports.{AreWaits, entries_of}
 use Rattle.run_rules.specs.Run.{IsRunSoFar}
-use Rattle.run_rules.specs.Scene.{Scene, scene_of}
-use Rattle.job_graph.specs.Words.{Fields, JobPlace}
-use Rattle.staging.specs.declared.found.Found.{Found}
-use Rattle.staging.specs.declared.plan.StagePlan.{StagePlan}
+use Rattle.run_rules.specs.Scene.{scene_of}
+use Rattle.job_graph.specs.Words.{Fields}
 use Rattle.proc_host.specs.declared.call.HostAnswer.{HostAnswer}
 use Rattle.proc_host.specs.declared.call.HostFault.{HostFault}
 use Rattle.proc_host.specs.declared.call.HostRequest.{HostRequest}
 use Rattle.run_core.specs.Machine.{Machine, PlanNow, is_draining, is_over}
+use Rattle.run_core.specs.Order.{IsFirst}
 
 -- it gave up as out of memory, and waits for no child any more
 abbrev pub IsLost : Machine → Type 0
@@ -54,18 +52,8 @@ pub record HasPlans (core : Machine) : Type 0 where
   pub run : IsRunSoFar core.setting core.transcript happened plans
   pub shows : Shows plans core.plan
 
--- where a job is to be staged, none that was known before it may be; and so where its files are to be fetched
-abbrev pub IsFirst : Scene → Progress → List Mark → Request → Type 0
-IsFirst s f marks (Request.Host place (HostRequest.Stage plan number)) =
-    (other : JobPlace) (its : StagePlan) (folder : ℕ) → MayStage s f marks other its folder →
-    number_of place (unfolding_at s f.events).jobs ≤ number_of other (unfolding_at s f.events).jobs
-IsFirst s f marks (Request.Host place (HostRequest.Fetch key number files)) =
-    (other : JobPlace) (its_key : List ℕ) (its_number : ℕ) (its_files : List Found) → MayFetch s f marks other its_key its_number its_files →
-    number_of place (unfolding_at s f.events).jobs ≤ number_of other (unfolding_at s f.events).jobs
-IsFirst s f marks request = Unit {0}
-
--- what it asked and was answered is a run so far, whose plan it shows and after which it may ask what it asks, and of the jobs that may be staged,
--- or fetched, asks for the first one; or memory ran out, and after a run so far it only waits for the children in flight
+-- what it asked and was answered is a run so far, whose plan it shows and after which it may ask what it asks, the first of all that it may ask; or
+-- memory ran out, and after a run so far it only waits for the children in flight
 pub data MayAsk (core : Machine) : Type 0 where
   allowed : (happened : Progress) (plans : PlansSoFar) → IsRunSoFar core.setting core.transcript happened plans → Shows plans core.plan →
       Allowed (scene_of core.setting) happened plans.marks core.asks → IsFirst (scene_of core.setting) happened plans.marks core.asks → MayAsk core

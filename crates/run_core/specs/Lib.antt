@@ -1,4 +1,5 @@
 pub mod Limits
 pub mod Core
 pub mod Machine
+pub mod Order
 pub mod inner

@@ -26,6 +26,7 @@ use Rattle.job_rows.specs.declared.row.Row.{Row}
 use Rattle.run_rules.proofs.events.Course.{Keeps as AreKept}
 use Rattle.run_rules.proofs.events.Flights.{is_flying}
 use Rattle.run_rules.proofs.events.Tally.{Readings, readings}
+use Rattle.run_rules.proofs.events.Lookups.{LooksUp}
 use Rattle.run_rules.proofs.events.Places.{IsJob, number_is}
 use Rattle.run_rules.proofs.events.Planned.{jobs_in}
 use Rattle.run_rules.proofs.events.Ready.{AreParentsThere, NoneIsReady}
@@ -44,13 +45,14 @@ use Rattle.run_core.specs.inner.Course.{Past, families_in, known_in, nothing_pas
 use Rattle.run_core.specs.inner.Due.{FitsCall, call_for, work_of}
 use Rattle.run_core.specs.inner.Follows.{AsksIn, AsksOf}
 use Rattle.run_core.specs.inner.Keeps.{Reflects, course_of}
-use Rattle.run_core.specs.Core.{IsFirst}
-use Rattle.run_core.specs.inner.Standing.{IsAt, IsStaging, Runs, collecting, delivering, ended, measuring, staging, working, finding, putting, storing, FetchesNext, dropping, fetching}
+use Rattle.run_core.specs.Order.{IsFirst}
+use Rattle.run_core.specs.inner.Standing.{IsAt, IsStaging, Runs, collecting, delivering, ended, measuring, staging, working, finding, putting, storing, FetchesNext, FindsNext, dropping, fetching}
 use Rattle.run_core.specs.inner.Marks.{is_load}
 use Rattle.plan_checker.specs.Plan.{mark}
 use Rattle.run_core.proofs.events.Families.{ready_if}
 use Rattle.run_core.proofs.events.Numbers.{Flies, flight_flies, flights_as_many}
 use Rattle.run_core.proofs.events.Reflecting.{Laws, staged_there}
+use Rattle.run_core.proofs.going.InOrder.{IsLowest, in_order, lowest_found}
 use Rattle.run_core.proofs.going.Measured.{IsOf, may_measure}
 use Rattle.run_core.proofs.going.Picking.{all_known, all_kept, loads_at, nor_kept, loads_can}
 use Rattle.run_core.proofs.job_steps.Calls.{IsForJob, for_job, working_allowed}
@@ -208,14 +210,14 @@ module _ (s : Scene) (given : Given) (its : IsOf s given) (laws : Laws s) where
   allows_at t f marks course asks (delivering plan r may going) = may
   allows_at t f marks course asks (ended end so noted) = absurd (asks refl)
 
-  first_call : (f : Progress) (marks : List Mark) (place : JobPlace) (call : HostRequest) → IsForJob call → IsFirst s f marks (Request.Host place call)
+  first_call : (f : Progress) (marks : List Mark) (place : JobPlace) (call : HostRequest) → IsForJob call → IsLowest s f marks (Request.Host place call)
   first_call f marks place (HostRequest.Stage plan number) its = absurd its
   first_call f marks place (HostRequest.Fetch key number files) its = absurd its
   first_call f marks place call its = tt
 
   -- the lowest job that waits is staged
   first_staged : (f : Progress) (marks : List Mark) (course : Course) (n : ℕ) (job : Job) (plan : StagePlan) → Reflects s f.events course None →
-      IsStaging s f marks course n job plan → IsFirst s f marks (Request.Host job.place (HostRequest.Stage plan (course.folders + 1)))
+      IsStaging s f marks course n job plan → IsLowest s f marks (Request.Host job.place (HostRequest.Stage plan (course.folders + 1)))
   first_staged f marks course n job plan r st =
       let whole : known_in course.known ≡ jobs_in s f = all_known s f.events course None r st.going in
       let books : AreKept (jobs_in s f) (readings f.events) (course_of (past_of course) None r.keeps.gave_up) = all_kept s f.events course None r st.going in
@@ -227,15 +229,17 @@ module _ (s : Scene) (given : Given) (its : IsOf s given) (laws : Laws s) where
       let ready : is_ready marks (families_in course.known) course.jobs m ≡ true =
       ready_if marks (known_in course.known) course.jobs m other there waits computed
       (subst (λ (jobs : List Job). AreParentsThere jobs (course_of (past_of course) None r.keeps.gave_up) m other) (sym whole) parents) in
-      let never : true ≡ false = sym ready ∙ st.lowest.lowest m below in cc in
-      λ other its folder may.
-      let least : n ≤ number_of other (jobs_in s f) =
-      lowest_first s f marks (course_of (past_of course) None r.keeps.gave_up) books st.may.free n (ap is_some st.going) refl none_before other its folder may in
-      omega (arith, number, least)
+      let never : true ≡ false = sym ready ∙ st.lowest.lowest m below in cc in (
+        st.no_fetch,
+        λ other its folder may.
+            let least : n ≤ number_of other (jobs_in s f) =
+            lowest_first s f marks (course_of (past_of course) None r.keeps.gave_up) books st.may.free n (ap is_some st.going) refl none_before other its folder may in
+            omega (arith, number, least),
+      )
 
   -- the files of the lowest job that waits and is loaded are fetched
   first_fetched : (t : List Pair) (f : Progress) (plans : PlansSoFar) (goes : Goes s (InForce s) t f plans) (course : Course) (n : ℕ) (job : Job) (row : Row) → Reflects s f.events course None →
-      FetchesNext s f plans.marks course n job row → IsFirst s f plans.marks (Request.Host job.place (HostRequest.Fetch row.key (course.folders + 1) row.files))
+      FetchesNext s f plans.marks course n job row → IsLowest s f plans.marks (Request.Host job.place (HostRequest.Fetch row.key (course.folders + 1) row.files))
   first_fetched t f plans goes course n job row r next =
       let whole : known_in course.known ≡ jobs_in s f = all_known s f.events course None r next.going in
       let books : AreKept (jobs_in s f) (readings f.events) (course_of (past_of course) None r.keeps.gave_up) = all_kept s f.events course None r next.going in
@@ -255,10 +259,23 @@ module _ (s : Scene) (given : Given) (its : IsOf s given) (laws : Laws s) where
       other its_key its_number its_files may in
       omega (arith, number, least)
 
+  -- the row of the lowest job that was not looked for is
+  first_found : (f : Progress) (marks : List Mark) (course : Course) (n : ℕ) (job : Job) → Reflects s f.events course None → FindsNext s f course n job →
+      IsLowest s f marks (Request.Record job.place (RecordRequest.Find (key job.tool job.inputs)))
+  first_found f marks course n job r next other its_key may =
+      let whole : known_in course.known ≡ jobs_in s f = all_known s f.events course None r next.going in
+      let books : AreKept (jobs_in s f) (readings f.events) (course_of (past_of course) None r.keeps.gave_up) = all_kept s f.events course None r next.going in
+      let number : number_of job.place (jobs_in s f) ≡ n =
+      number_is (jobs_in s f) books.apart n job (subst (λ (jobs : List Job). IsJob jobs n job) whole next.it) in
+      let least : n ≤ number_of other (jobs_in s f) =
+      lowest_found s f marks books.apart course.looked_up (subst (λ (jobs : List Job). LooksUp jobs f.events course.looked_up) whole r.looks) n
+      (λ m its there left below. next.first m its (subst (λ (jobs : List Job). IsJob jobs m its) (sym whole) there) left below) other its_key may in
+      omega (arith, number, least)
+
   first_at : (t : List Pair) (f : Progress) (plans : PlansSoFar) → Goes s (InForce s) t f plans → (course : Course) {turn : Turn} → turn.asks ≢ Request.Finished → IsAt s f plans.marks course turn →
-      IsFirst s f plans.marks turn.asks
+      IsLowest s f plans.marks turn.asks
   first_at t f plans goes course asks (measuring found m rest path is left happened none nothing) = tt
-  first_at t f plans goes course asks (finding n job r next) = tt
+  first_at t f plans goes course asks (finding n job r next) = first_found f plans.marks course n job r next
   first_at t f plans goes course asks (putting n job row r it due) = tt
   first_at t f plans goes course asks (storing n job row r it due) = tt
   first_at t f plans goes course asks (fetching n job row r next) = first_fetched t f plans goes course n job row r next
@@ -275,7 +292,9 @@ module _ (s : Scene) (given : Given) (its : IsOf s given) (laws : Laws s) where
   allows t course turn runs asks = allows_at t runs.happened runs.plans.marks course asks runs.at
 
   pub is_first : (t : List Pair) (course : Course) (turn : Turn) (runs : Runs s t course turn) → turn.asks ≢ Request.Finished → IsFirst s runs.happened runs.plans.marks turn.asks
-  is_first t course turn runs asks = first_at t runs.happened runs.plans runs.goes course asks runs.at
+  is_first t course turn runs asks =
+      in_order s runs.happened runs.plans.marks turn.asks asks (allows t course turn runs asks)
+      (first_at t runs.happened runs.plans runs.goes course asks runs.at)
 
 pub asks_in : (s : Scene) (t : List Pair) (course : Course) (turn : Turn) → Runs s t course turn → AsksIn course turn
 asks_in s t course turn runs = asks_at s runs.happened runs.plans.marks course runs.at

@@ -18,7 +18,7 @@ use Rattle.run_core.specs.inner.Inside.{rates_of, setting_in}
 use Rattle.run_core.specs.declared.state.Course.{Course}
 use Rattle.run_core.specs.declared.state.Given.{Given}
 use Rattle.run_core.specs.declared.state.Turn.{Turn}
-use Rattle.run_core.specs.Core.{IsFirst}
+use Rattle.run_core.specs.Order.{IsFirst}
 use Rattle.run_core.specs.inner.Course.{nothing_past, past_of}
 use Rattle.run_core.specs.inner.Follows.{FollowsFrom}
 use Rattle.run_core.specs.inner.Measures.{Begins}

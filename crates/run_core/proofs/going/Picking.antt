@@ -217,9 +217,9 @@ module _ (s : Scene) (given : Given) (same : given.options ≡ s.options) where
   module _ {t : List Pair} (f : Progress) (plans : PlansSoFar) (goes : Goes s (InForce s) t f plans) (idle : f.work ≡ nothing_due) where
     -- the lowest job that is ready is staged
     staged_next : (course : Course) (n : ℕ) (turn : Turn) → KeepsPlans plans (past_of course) → Reflects s f.events course None → course.end ≡ None → NoneToFind course →
-        length course.tickets.items < s.options.slots → IsLowest (marks_in course.planned) (families_in course.known) course.jobs n → Stages given course n turn →
-        IsAt s f plans.marks course turn
-    staged_next course n turn planned r going looked slot by_course st =
+        NoneMayFetch s f plans.marks → length course.tickets.items < s.options.slots → IsLowest (marks_in course.planned) (families_in course.known) course.jobs n →
+        Stages given course n turn → IsAt s f plans.marks course turn
+    staged_next course n turn planned r going looked unfetched slot by_course st =
         let it : IsJob (known_in course.known) n st.job = job_there (known_in course.known) n st.job st.known in
         let whole : known_in course.known ≡ jobs_in s f = all_known s f.events course None r going in
         let lowest : IsLowest plans.marks (families_in course.known) course.jobs n =
@@ -234,6 +234,7 @@ module _ (s : Scene) (given : Given) (same : given.options ≡ s.options) where
               (subst (λ (jobs : List Job). AreParentsThere jobs (course_of (past_of course) None r.keeps.gave_up) n st.job) whole
               (ready_parents plans.marks (known_in course.known) course.jobs n st.job it lowest.ready)) slot
               (plan_same f.events course None r n st);
+          no_fetch = unfetched;
           lowest = lowest;
           going = going;
         }))
@@ -424,6 +425,6 @@ module _ (s : Scene) (given : Given) (same : given.options ≡ s.options) where
         pub chosen : Laws s → 1 ≤ s.options.slots → {turn : Turn} → Chooses given course turn → IsAt s f plans.marks course turn
         chosen laws some (fetches number turn next f_is) = fetched_next course number turn planned r going looked next f_is
         chosen laws some (stages number turn unfetched may st) =
-            staged_next course number turn planned r going looked (subst (λ (o : Options). length course.tickets.items < o.slots) same may.slot) may.lowest st
+            staged_next course number turn planned r going looked (unfetched_if unfetched) (subst (λ (o : Options). length course.tickets.items < o.slots) same may.slot) may.lowest st
         chosen laws some (waits_for_one unfetched none flying) = waited_for flying unfetched none
         chosen laws some (has_result turn unfetched none nobody d) = result_there laws some nobody unfetched none d

@@ -51,6 +51,7 @@ module _ (s : Scene) (f : Progress) (marks : List Mark) (old new : Course) (past
   staging_same n job plan st = record {
     it = subst (λ (jobs : List Job). IsJob jobs n job) same_jobs st.it;
     may = subst (λ folders. MayStage s f marks job.place plan (folders + 1)) same_folders st.may;
+    no_fetch = st.no_fetch;
     lowest = lowest_same n st.lowest;
     going = same_end ∙ st.going;
   }

@@ -3,6 +3,7 @@ use Rattle.std.specs.Prelude.{◌≡◌, ◌≢◌, ◌<◌, ◌≤◌, ◌+◌,
 use Rattle.plan_checker.specs.declared.plan.Mark.{Mark}
 use Rattle.proc_host.specs.declared.call.Entry.{Entry}
 use Rattle.proc_host.specs.declared.call.HostRequest.{HostRequest}
+use Rattle.staging.specs.declared.found.Found.{Found}
 use Rattle.staging.specs.declared.measure.Measure.{Measure}
 use Rattle.staging.specs.declared.plan.StagePlan.{StagePlan}
 use Rattle.job_graph.specs.Jobs.{Job}
@@ -62,10 +63,11 @@ pub record IsWorking (s : Scene) (f : Progress) (course : Course) (number : ℕ)
   pub calls : Calls s.options (state_at course.jobs number).folder call phase
   pub on : WorksOn f.events job.place phase
 
--- a job that is to be staged: the lowest one that is ready, by these marks
+-- a job that is to be staged: the lowest one that is ready, by these marks, if no files may be fetched
 pub record IsStaging (s : Scene) (f : Progress) (marks : List Mark) (course : Course) (number : ℕ) (job : Job) (plan : StagePlan) : Type 0 where
   pub it : IsJob (known_in course.known) number job
   pub may : MayStage s f marks job.place plan (course.folders + 1)
+  pub no_fetch : (place : JobPlace) (its_key : List ℕ) (its_number : ℕ) (files : List Found) → MayFetch s f marks place its_key its_number files → ⊥
   pub lowest : IsLowest marks (families_in course.known) course.jobs number
   pub going : course.end ≡ None
 
