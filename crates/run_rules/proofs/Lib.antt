@@ -11,6 +11,8 @@ pub mod Makers
 pub mod LoadCosts
 pub mod Free
 pub mod Brought
+pub mod Elsewhere
+pub mod ElsewhereStarted
 pub mod FetchedOnce
 pub mod Flying
 pub mod FailedFew
