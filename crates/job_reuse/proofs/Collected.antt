@@ -1,11 +1,12 @@
 -- What is collected of a job is settled, and such as a record keeps.
-use Rattle.std.proofs.Common.{◌≡◌, Bool, true, false, true≢false, not, List, [], ◌∷◌, map, codes, pos, Option, Some, None, Result, Ok, Err, IfOk, option_map, refl, sym, ap, subst, ◌∙◌, Ordering, Less, Equal, Greater}
+use Rattle.std.proofs.Common.{◌≡◌, Bool, IsTrue, true, false, true≢false, not, List, [], ◌∷◌, map, codes, pos, Option, Some, None, Result, Ok, Err, IfOk, option_map, refl, sym, ap, subst, ◌∙◌, Ordering, Less, Equal, Greater}
 use Rattle.std.specs.Prelude.{if◌then◌else◌, nat_le, unwrap_or}
 use Rattle.std.specs.Option.{IfSome, option_map_or}
 use Rattle.std.specs.Ordering.{match_ordering}
-use Rattle.std.specs.List.{All, AllByRecursion}
+use Rattle.std.specs.List.{All, AllByRecursion, AllPass}
 use Rattle.std.specs.Map.{values_of}
 use Rattle.std.proofs.lemmas.List.Elements.{All-nil, All-cons, All-head, All-tail}
+use Rattle.std.proofs.lemmas.List.Sums.{AllPass-from_list_all}
 use Rattle.std.proofs.lemmas.Map.Views.{All-values-insert_entry}
 use Rattle.plain_data.specs.ByName.{IsByName, name_cmp, value_at, with_value, map_values}
 use Rattle.plain_data.proofs.ByName.{order_by_name}
@@ -25,7 +26,7 @@ use Rattle.staging.specs.declared.found.Found.{Found}
 use Rattle.collected_outputs.specs.Checked.{every, is_typed, all_found, bare}
 use Rattle.collected_outputs.specs.Collected.{Collected, IsCollected, AreGathered, fault_of, readable, then_collected, by_object, written_after, with_output, written_value}
 use Rattle.collected_outputs.specs.Gives.{Gives, and_then}
-use Rattle.collected_outputs.specs.Listing.{Listing, entry_of, listing_of}
+use Rattle.collected_outputs.specs.Listing.{Listing, entry_of, is_path, listing_of}
 use Rattle.collected_outputs.specs.Matched.{Name}
 use Rattle.collected_outputs.specs.Object.{Named, object_of, written}
 use Rattle.collected_outputs.specs.Outputs.{Left, AreOutputs, HasValue, checked, output_value, value_beside}
@@ -36,11 +37,12 @@ use Rattle.collected_outputs.specs.declared.fault.CollectFault.TheVariants.{NotT
 use Rattle.collected_outputs.proofs.Throughout.{file_pass, dir_pass, list_passes, fields_pass, file_value, dir_value, file_level, dir_level}
 use Rattle.job_rows.specs.Storable.{IsKept}
 use Rattle.job_reuse.specs.Form.{IsInForm, AreInForm}
-use Rattle.job_reuse.specs.Left.{IsPath, is_elsewhere, IsLeftBy}
+use Rattle.job_reuse.specs.Left.{is_elsewhere, IsLeftBy}
 use Rattle.job_reuse.proofs.Bound.{bound_good}
 use Rattle.job_reuse.proofs.Folder.{ArePaths}
 use Rattle.job_reuse.proofs.Good.{IsGood, AreGood, AreGoodFields, FileIs, DirIs}
 use Rattle.job_reuse.proofs.Nesting.{nests_as_json}
+use Rattle.job_reuse.proofs.Paths.{IsPath, path_of}
 use Rattle.job_reuse.proofs.Settled.{IsSettled, AreSettledFields, settled}
 use Rattle.job_reuse.proofs.Storable.{storable}
 use Rattle.job_reuse.proofs.Written.{written_good}
@@ -60,9 +62,11 @@ paths_with : (name : Name) (x : Entry) (es : Listing) → IsPath name → ArePat
 paths_with name x [] is paths = All-cons HasPath (name, x) [] is (All-nil HasPath)
 paths_with name x (e ∷ es) is paths = path_put (name_cmp name e.0) name x e es is paths (paths_with name x es is (All-tail HasPath e es paths))
 
-paths_found : (found : List Found) → All (λ f. IsPath f.name) found → ArePaths (listing_of found)
+paths_found : (found : List Found) → AllPass (λ f. is_path f.name) found → ArePaths (listing_of found)
 paths_found [] paths = All-nil HasPath
-paths_found (f ∷ fs) paths = paths_with f.name ((entry_of f).1) (listing_of fs) (All-head (λ (f : Found). IsPath f.name) f fs paths) (paths_found fs (All-tail (λ (f : Found). IsPath f.name) f fs paths))
+paths_found (f ∷ fs) paths =
+    let IsListed : Found → Type 0 = λ f. IsTrue (is_path f.name) in
+    paths_with f.name ((entry_of f).1) (listing_of fs) (path_of f.name (All-head IsListed f fs paths)) (paths_found fs (All-tail IsListed f fs paths))
 
 module _ (listing : Listing) where
   file_elsewhere : (f : FileVal-F Value DirVal FileVal) (p : Place) → is_elsewhere p ≡ true → FileIs listing f p
@@ -138,7 +142,7 @@ module _ (found : List Found) (left : Left) (is_left : IsLeftBy found left) wher
   order = subst IsByName (sym is_left.listed) (order_by_name (map entry_of found))
 
   paths : ArePaths L
-  paths = subst ArePaths (sym is_left.listed) (paths_found found is_left.paths)
+  paths = subst ArePaths (sym is_left.listed) (paths_found found (AllPass-from_list_all (λ (f : Found). is_path f.name) found is_left.paths))
 
   given : AreGoodFields L left.inputs
   given = inputs_good L left.inputs is_left.elsewhere

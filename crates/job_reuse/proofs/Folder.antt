@@ -25,10 +25,9 @@ use Rattle.collected_outputs.specs.Listing.{Listing}
 use Rattle.collected_outputs.specs.Matched.{Name}
 use Rattle.collected_outputs.specs.Object.{named as written_name}
 use Rattle.collected_outputs.specs.Values.{basename_of, stands_in, checksum_of, file_at, dir_at, entry_value, values_in, all_in, value_under, values_of}
-use Rattle.job_reuse.specs.Left.{IsPath}
 use Rattle.job_reuse.proofs.Good.{IsNamed, IsGood, AreGood, append}
 use Rattle.job_reuse.proofs.InTurn.{AreInTurn}
-use Rattle.job_reuse.proofs.Paths.{basename_named, by_basename}
+use Rattle.job_reuse.proofs.Paths.{IsPath, basename_named, by_basename}
 use Rattle.job_reuse.proofs.Entries.{Entry}
 
 -- the value of an entry is called after it, and may stand in a Directory or beside a File

@@ -1,19 +1,21 @@
 -- Paths by their last component, and names in one folder.
-use Rattle.std.proofs.Common.{◌≡◌, ℕ, zero, suc, ◌+◌, ◌-◌, ◌<◌, ◌≤◌, Bool, true, false, true≢false, not, ◌||◌, IsTrue, [], ◌∷◌, ◌++◌, length, length-append, get_or, take, drop, refl, sym, ap, ◌∙◌, take_at, drop_at, append_assoc, arith}
+use Rattle.std.proofs.Common.{◌≡◌, ℕ, zero, suc, ◌+◌, ◌-◌, ◌<◌, ◌≤◌, Bool, true, false, true≢false, not, ◌||◌, IsTrue, [], ◌∷◌, ◌++◌, length, length-append, get_or, take, drop, refl, sym, ap, ◌∙◌, take_at, drop_at, append_assoc, subst, List, arith}
 use Rattle.std.specs.Prelude.{bytes_eq, codes}
 use Rattle.std.specs.Cmp.Lexicographic.{slice_cmp}
-use Rattle.std.specs.List.{list_any, suffix_len, before_last}
+use Rattle.std.specs.List.{list_any, suffix_len, before_last, slice_split, join_with_byte, AllPass}
 use Rattle.std.specs.Ordering.{nat_cmp, ordering_then}
 use Rattle.std.proofs.lemmas.Cmp.{nat_cmp_total, tied_itself}
 use Rattle.std.proofs.lemmas.List.{get_or-append-add, length_push}
-use Rattle.std.proofs.lemmas.List.Sums.{suffix_len_is}
+use Rattle.std.proofs.lemmas.List.Elements.{All-head, All-tail}
+use Rattle.std.proofs.lemmas.List.Splits.{join_with_byte-slice_split, length-slice_split}
+use Rattle.std.proofs.lemmas.List.Sums.{suffix_len_is, AllPass-from_list_all}
 use Rattle.std.proofs.lemmas.Slice.Eq.{bytes_eq-Decides}
 use Rattle.std.proofs.Math.Seq.{get_or-append_seam}
 use Rattle.plain_data.specs.ByName.{name_cmp}
 use Rattle.cwl_value.specs.Reading.{is_name}
+use Rattle.collected_outputs.specs.Listing.{is_path}
 use Rattle.collected_outputs.specs.Matched.{Name}
 use Rattle.collected_outputs.specs.Values.{is_slash, basename_of, stands_in}
-use Rattle.job_reuse.specs.Left.{IsPath}
 
 -- ---- names
 
@@ -78,8 +80,33 @@ folder_inside folder name none =
 
 -- ---- paths
 
+-- a name, or a name in such a folder
+pub data IsPath : Name → Type 0 where
+  alone : (name : Name) → IsTrue (is_name name) → IsPath name
+  inside : (folder name : Name) → IsPath folder → IsTrue (is_name name) → IsPath (folder ++ 47 ∷ name)
+
+-- what is at a path in a folder of this name
+path_in : (folder path : Name) → IsTrue (is_name folder) → IsPath path → IsPath (folder ++ 47 ∷ path)
+path_in folder _ is (IsPath.alone name named) = IsPath.inside folder name (IsPath.alone folder is) named
+path_in folder _ is (IsPath.inside own name within named) =
+    subst IsPath (append_assoc folder (47 ∷ own) (47 ∷ name)) (IsPath.inside (folder ++ 47 ∷ own) name (path_in folder own is within) named)
+
+path_of_parts : (part : Name) (parts : List Name) → AllPass is_name (part ∷ parts) → IsPath (join_with_byte 47 (part ∷ parts))
+path_of_parts part [] named = IsPath.alone part (All-head (λ (n : Name). IsTrue (is_name n)) part [] named)
+path_of_parts part (next ∷ parts) named = path_in part (join_with_byte 47 (next ∷ parts)) (All-head (λ (n : Name). IsTrue (is_name n)) part (next ∷ parts) named)
+    (path_of_parts next parts (All-tail (λ (n : Name). IsTrue (is_name n)) part (next ∷ parts) named))
+
+some_parts : (parts : List Name) → 0 < length parts → AllPass is_name parts → IsPath (join_with_byte 47 parts)
+some_parts [] some named = absurd (omega arith)
+some_parts (part ∷ parts) some named = path_of_parts part parts named
+
+-- names with slashes between are such a path
+pub path_of : (path : Name) → IsTrue (is_path path) → IsPath path
+path_of path is = subst IsPath (join_with_byte-slice_split 47 path)
+    (some_parts (slice_split is_slash path) (omega (arith, length-slice_split is_slash path)) (AllPass-from_list_all is_name (slice_split is_slash path) is))
+
 pub basename_named : (path : Name) → IsPath path → IsTrue (is_name (basename_of path))
-basename_named _ (IsPath.name name is) = ap is_name (basename_alone name (unslashed name is)) ∙ is
+basename_named _ (IsPath.alone name is) = ap is_name (basename_alone name (unslashed name is)) ∙ is
 basename_named _ (IsPath.inside folder name within is) = ap is_name (basename_inside folder name (unslashed name is)) ∙ is
 
 -- what stands before the name, of what is in the folder
@@ -88,7 +115,7 @@ front [] = []
 front (c ∷ cs) = (c ∷ cs) ++ 47 ∷ []
 
 some_path : (path : Name) → IsPath path → path ≡ [] → ⊥
-some_path _ (IsPath.name name is) none = true≢false (sym is ∙ ap is_name none)
+some_path _ (IsPath.alone name is) none = true≢false (sym is ∙ ap is_name none)
 some_path _ (IsPath.inside folder name within is) none =
     let long : length (folder ++ 47 ∷ name) ≡ 0 = ap length none in
     omega (arith, long, length-append folder (47 ∷ name))
@@ -98,7 +125,7 @@ front_some [] some = absurd (some refl)
 front_some (c ∷ cs) some = refl
 
 pub in_front : (folder path : Name) → IsPath path → stands_in folder path ≡ true → path ≡ front folder ++ basename_of path
-in_front folder _ (IsPath.name name is) stands =
+in_front folder _ (IsPath.alone name is) stands =
     let none = unslashed name is in
     let root : [] ≡ folder = sym (folder_alone name none) ∙ (bytes_eq-Decides (before_last is_slash name) folder).0 stands in
     sym (ap (λ f. front f ++ basename_of name) (sym root) ∙ basename_alone name none)

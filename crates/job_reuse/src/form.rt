@@ -6,9 +6,11 @@ ghost use Rattle.job_reuse.specs.Form.{IsInForm, AreAllInForm, AreInForm};
 use cwl_value::{DirVal, FileVal, Value};
 use plain_data::{Items, Keyed};
 
-/// Says of values by name that they are in form. It looks at each of them and changes nothing.
+/// Says of values by name what their types say, at any depth: each whole number has 64 bits, and fields are in the order of their
+/// names, each once. It looks at each value and changes nothing. Contracts of who calls it know then that the values are in form,
+/// as the law that outputs are kept asks (`collected_outputs_are_kept`).
 #[cycle(form)]
-pub(crate) fn in_form(fields: &Keyed<Value>)
+pub fn in_form(fields: &Keyed<Value>)
     ensures { AreInForm fields.now }
 {
     for field in fields.as_slice() {

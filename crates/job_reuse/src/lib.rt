@@ -20,6 +20,7 @@ mod stands;
 
 pub use bytes::file_bytes;
 pub use fetched::files_agree;
+pub use form::in_form;
 pub use laws::{
     collected_outputs_are_kept, fetched_files_stand_in, files_are_the_same_or_not,
     outputs_are_the_same_or_not, outputs_differ_in_values_or_names, rows_are_sound_or_not,
