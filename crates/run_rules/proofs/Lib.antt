@@ -4,6 +4,7 @@ pub mod OneJob
 pub mod Few
 pub mod TranscriptTells
 pub mod Answered
+pub mod Kept
 pub mod Measuring
 pub mod Named
 pub mod Apart

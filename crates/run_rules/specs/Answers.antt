@@ -1,5 +1,5 @@
 -- Which answers a request can have.
-use Rattle.std.specs.Prelude.{◌≡◌, ℕ, List, Option}
+use Rattle.std.specs.Prelude.{◌≡◌, ℕ, List, Option, Contains}
 use Rattle.std.specs.Option.{IfSome}
 use Rattle.job_rows.specs.declared.refusal.RecordRefusal.{RecordRefusal}
 use Rattle.job_rows.specs.declared.row.Row.{Row}
@@ -7,6 +7,7 @@ use Rattle.proc_host.specs.Answers.{CanAnswer, flying_with}
 use Rattle.proc_host.specs.declared.call.HostAnswer.{HostAnswer}
 use Rattle.proc_host.specs.declared.call.HostRequest.{HostRequest}
 use Rattle.run_rules.specs.declared.request.Answer.{Answer}
+use Rattle.run_rules.specs.declared.request.Pair.{Pair}
 use Rattle.run_rules.specs.declared.request.RecordAnswer.{RecordAnswer}
 use Rattle.run_rules.specs.declared.request.RecordRequest.{RecordRequest}
 use Rattle.run_rules.specs.declared.request.Request.{Request}
@@ -30,3 +31,7 @@ pub data MayAnswer (flying : List ℕ) : Request → Answer → Type 0 where
 abbrev pub flying_after : List ℕ → Answer → List ℕ
 flying_after flying (Answer.Host answer) = flying_with flying answer
 flying_after flying (Answer.Record answer) = flying
+
+-- each answer of a transcript is one that its request's call can give, whichever children are in flight
+abbrev pub AreAnswers : List Pair → Type 0
+AreAnswers t = (pair : Pair) → Contains t pair → (flying : List ℕ) × MayAnswer flying pair.request pair.answer

@@ -1,7 +1,9 @@
 //! What follows from the definitions alone, for any run: each law is the contract of a function that
-//! does nothing, or only calls laws of `job_graph`.
+//! does nothing, or only calls laws of `job_graph` and `job_reuse`.
 ghost use Rattle.std.specs.Prelude.{◌≡◌, ◌≢◌, ◌+◌, ◌≤◌, ◌↔◌, ℕ, true, List, [], ◌∷◌, ◌++◌, Ok, Some, Contains, is_some, length};
 ghost use Rattle.run_rules.specs.declared.request.Pair.{Pair};
+ghost use Rattle.run_rules.specs.declared.request.RecordAnswer.{RecordAnswer};
+ghost use Rattle.run_rules.specs.declared.request.RecordRequest.TheVariants.{Put};
 ghost use Rattle.run_rules.specs.declared.request.Request.{Request};
 ghost use Rattle.run_rules.specs.declared.setting.Setting.{Setting};
 ghost use Rattle.cwl_value.specs.Texts.{ReadsAs};
@@ -25,7 +27,11 @@ ghost use Rattle.job_graph.specs.Made.{any_made};
 ghost use Rattle.job_graph.specs.LoadCosts.{IsLoadCost};
 ghost use Rattle.job_graph.specs.Unfold.{Resolved, outputs_at, too_many_jobs, unfolded};
 ghost use Rattle.job_graph.specs.Words.{Fields, JobPlace};
+ghost use Rattle.job_reuse.specs.Form.{AreInForm};
+ghost use Rattle.job_rows.specs.Storable.{IsKept};
+ghost use Rattle.job_rows.specs.declared.row.Row.{Row};
 ghost use Rattle.run_rules.specs.Allowed.{Allowed, IsBusy};
+ghost use Rattle.run_rules.specs.Answers.{AreAnswers};
 ghost use Rattle.run_rules.specs.Costs.{cost_to_load};
 ghost use Rattle.run_rules.specs.Delivered.{located, object_of};
 ghost use Rattle.run_rules.specs.End.{End, succeeds_with};
@@ -46,11 +52,13 @@ ghost use Rattle.run_rules.specs.Plans.{PlansSoFar, is_planning, mark_at, plan_n
 ghost use Rattle.run_rules.specs.Run.{IsRun, IsRunSoFar};
 ghost use Rattle.run_rules.specs.Scene.{NothingWasMadeBefore, Scene, scene_of};
 ghost use Rattle.run_rules.specs.RanWell.{HasOutputs};
+ghost use Rattle.run_rules.specs.Steps.{command};
 
 use job_graph::{
     failed_jobs_fail_eval, faults_fail_eval, known_jobs_agree, known_places_differ,
     results_are_eval, results_learned_each_job,
 };
+use job_reuse::collected_outputs_are_kept;
 
 /// In a run that ends in success the outputs of each known job came from a child that was started for the job at its place and
 /// ended well, or from a row that the record had of it.
@@ -234,3 +242,20 @@ pub fn faults_came_of_answers()
         (note : Note)
         → IsRunSoFar setting t f plans → Contains (notes_of f.events) note → NoteIsOf t note }
 {}
+
+/// Says that each row that a run asks the record to put, or may ask it to put next, is such as a record keeps and reads back, if each
+/// answer before was one that its call can give: outputs are collected from what stands below the job's folder. That outputs are in
+/// form is known of any values, since their types say it (`job_reuse::in_form`).
+pub fn rows_put_are_kept()
+    ensures put { (setting : Setting) (t : List Pair) (f : Progress) (plans : PlansSoFar)
+        (place : JobPlace) (row : Row) (told : RecordAnswer)
+        → IsRunSoFar setting t f plans → AreAnswers t → Contains t (command place (Put row) told)
+        → AreInForm row.outputs → IsKept row.outputs }
+    ensures next { (setting : Setting) (t : List Pair) (f : Progress) (plans : PlansSoFar)
+        (place : JobPlace) (row : Row)
+        → IsRunSoFar setting t f plans → AreAnswers t
+        → Allowed (scene_of setting) f plans.marks (Request.Record place (Put row))
+        → AreInForm row.outputs → IsKept row.outputs }
+{
+    collected_outputs_are_kept();
+}

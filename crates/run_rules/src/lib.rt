@@ -17,7 +17,7 @@ pub use laws::{
     load_costs_are_rounded_up, looks_make_one_plan, makers_are_parents, no_held_job_is_computed,
     no_place_is_fetched_twice, no_place_is_started_too_often, nothing_follows_the_end,
     nothing_is_left_undone, nothing_read_was_made_before, one_end, plans_followed_are_cheapest,
-    success_has_each_job,
+    rows_put_are_kept, success_has_each_job,
 };
 pub use outcome::{Cause, CollectCause, Note, NoteKind, Outcome, PlanNote, Report, RunFault};
 pub use request::{Answer, Pair, RecordAnswer, RecordRequest, Request};

@@ -1,105 +1,97 @@
 -- What a record answers by its map, one command after another.
-use Rattle.std.proofs.Common.{◌≡◌, ◌++◌, ◌∷◌, [], ℕ, List, Option, Result, Ok, Err, sym, subst}
+use Rattle.std.specs.Prelude.{Contains}
 use Rattle.std.specs.declared.alloc.AllocError.{AllocError}
-use Rattle.job_graph.specs.Words.{JobPlace}
-use Rattle.job_rows.specs.Map.{RowMap, Finds, Puts, Drops}
+use Rattle.std.proofs.Common.{◌≡◌, ◌∙◌, ◌++◌, ◌∷◌, [], inl, inr, ℕ, zero, List, Option, Result, Ok, Err, refl, sym, ap, subst, arith}
+use Rattle.std.proofs.lemmas.List.Elements.{Contains-append_left, Contains-append_right, Contains-append_cases, filter_map-append}
+use Rattle.job_graph.specs.Words.{Fields, JobPlace}
+use Rattle.job_rows.specs.Map.{RowMap, Change, Finds, Puts, Drops, changed_by, changed_by_all}
+use Rattle.job_rows.specs.Storable.{IsKept}
 use Rattle.job_rows.specs.declared.refusal.RecordError.{RecordError}
 use Rattle.job_rows.specs.declared.refusal.RecordError.TheVariants as error
-use Rattle.job_rows.specs.declared.refusal.RecordRefusal.{RecordRefusal}
 use Rattle.job_rows.specs.declared.refusal.RecordRefusal.TheVariants.{NotARecord, WrongVersion, NoRow, Store}
 use Rattle.job_rows.specs.declared.row.Row.{Row}
 use Rattle.proc_host.specs.declared.call.HostRequest.{HostRequest}
+use Rattle.run_rules.specs.Steps.{command}
+use Rattle.run_rules.proofs.TranscriptTells.{only_in}
 use Rattle.run_rules.specs.declared.request.Answer.{Answer}
 use Rattle.run_rules.specs.declared.request.Pair.{Pair}
 use Rattle.run_rules.specs.declared.request.RecordAnswer.{RecordAnswer}
-use Rattle.run_rules.specs.declared.request.RecordAnswer.TheVariants.{Found, Done, Refused}
 use Rattle.run_rules.specs.declared.request.RecordRequest.{RecordRequest}
 use Rattle.run_rules.specs.declared.request.RecordRequest.TheVariants.{Find, Put, DropArchive}
 use Rattle.run_rules.specs.declared.request.Request.{Request}
-use Rattle.workflow_engine.specs.ByMap.{ArePairsBy, IsAnswerBy, IsPairBy, KeepsToMap}
+use Rattle.workflow_engine.specs.ByMap.{ArePairsBy, KeepsToMap, change_by, changes_of}
 use Rattle.workflow_engine.specs.Gains.{done_by, found_by}
-use Rattle.workflow_engine.specs.inner.Mapped.{IsToldBy, pairs_by}
+use Rattle.workflow_engine.specs.inner.Mapped.{ArePut, IsPut, IsToldBy, KeepsToMapIfRead, pairs_by}
 
 -- ---- one command
 
-pub find_by : (Then : RowMap → Type 0) (map : RowMap) (key : List ℕ) (outcome : Result (Option Row) RecordError) → Finds map key outcome × Then map →
-    IsToldBy (Find key) (found_by outcome) Then map
-find_by Then map key (Ok row) h = h
-find_by Then map key (Err (error.Refused refusal)) h = h
-find_by Then map key (Err error.OutOfMemory) h = h.1
+pub find_by : (Holds : RowMap → Type 0) (map : RowMap) (key : List ℕ) (outcome : Result (Option Row) RecordError) → Finds map key outcome × Holds map →
+    IsToldBy map (Find key) (found_by outcome) Holds
+find_by Holds map key (Ok row) h = λ read. h
+find_by Holds map key (Err (error.Refused refusal)) h = λ read. h
+find_by Holds map key (Err error.OutOfMemory) h = h.1
 
-pub put_by : (Then : RowMap → Type 0) (map : RowMap) (row : Row) (outcome : Result (Unit {0}) RecordError) → Puts Then map row outcome →
-    IsToldBy (Put row) (done_by outcome) Then map
-put_by Then map row (Ok done) h = h
-put_by Then map row (Err (error.Refused refusal)) h = h
-put_by Then map row (Err error.OutOfMemory) h = h
+pub put_by : (Holds : RowMap → Type 0) (map : RowMap) (row : Row) (outcome : Result (Unit {0}) RecordError) → Puts Holds map row outcome →
+    IsToldBy map (Put row) (done_by outcome) Holds
+put_by Holds map row (Ok done) h = λ read. (tt, h read)
+put_by Holds map row (Err (error.Refused NotARecord)) h = absurd h
+put_by Holds map row (Err (error.Refused WrongVersion)) h = absurd h
+put_by Holds map row (Err (error.Refused NoRow)) h = absurd h
+put_by Holds map row (Err (error.Refused Store)) h = λ read. (tt, h)
+put_by Holds map row (Err error.OutOfMemory) h = h
 
-pub drop_by : (Then : RowMap → Type 0) (map : RowMap) (key : List ℕ) (outcome : Result (Unit {0}) RecordError) → Drops Then map key outcome →
-    IsToldBy (DropArchive key) (done_by outcome) Then map
-drop_by Then map key (Ok done) h = h
-drop_by Then map key (Err (error.Refused refusal)) h = h
-drop_by Then map key (Err error.OutOfMemory) h = h
+pub drop_by : (Holds : RowMap → Type 0) (map : RowMap) (key : List ℕ) (outcome : Result (Unit {0}) RecordError) → Drops Holds map key outcome →
+    IsToldBy map (DropArchive key) (done_by outcome) Holds
+drop_by Holds map key (Ok done) h = λ read. h
+drop_by Holds map key (Err (error.Refused NotARecord)) h = absurd h
+drop_by Holds map key (Err (error.Refused WrongVersion)) h = absurd h
+drop_by Holds map key (Err (error.Refused NoRow)) h = λ read. h
+drop_by Holds map key (Err (error.Refused Store)) h = λ read. (tt, h)
+drop_by Holds map key (Err error.OutOfMemory) h = h
 
--- ---- what comes then
+-- ---- one after another
 
-module _ (P Q : RowMap → Type 0) (next : (map : RowMap) → P map → Q map) where
-  put_then : (row : Row) (refusal : RecordRefusal) (map : RowMap) → Puts P map row (Err (error.Refused refusal)) → Puts Q map row (Err (error.Refused refusal))
-  put_then row NotARecord map h = h
-  put_then row WrongVersion map h = h
-  put_then row NoRow map h = h
-  put_then row Store map h = next map h
+changed_more : (changes more : List Change) (map : RowMap) → changed_by_all (changes ++ more) map ≡ changed_by_all more (changed_by_all changes map)
+changed_more [] more map = refl
+changed_more (change ∷ changes) more map = changed_more changes more (changed_by change map)
 
-  drop_then : (key : List ℕ) (refusal : RecordRefusal) (map : RowMap) → Drops P map key (Err (error.Refused refusal)) → Drops Q map key (Err (error.Refused refusal))
-  drop_then key NotARecord map h = h
-  drop_then key WrongVersion map h = h
-  drop_then key NoRow map h = (h.0, next map h.1)
-  drop_then key Store map h = next map h
+map_after : (t more : List Pair) (map : RowMap) → changed_by_all (changes_of (t ++ more)) map ≡ changed_by_all (changes_of more) (changed_by_all (changes_of t) map)
+map_after t more map =
+    ap (λ (changes : List Change). changed_by_all changes map) (filter_map-append (λ (pair : Pair). change_by pair.request pair.answer) t more)
+    ∙ changed_more (changes_of t) (changes_of more) map
 
-  answer_then : (request : RecordRequest) (answer : RecordAnswer) (map : RowMap) → IsAnswerBy request answer P map → IsAnswerBy request answer Q map
-  answer_then (Find key) (Found row) map h = (h.0, next map h.1)
-  answer_then (Find key) Done map h = h
-  answer_then (Find key) (Refused refusal) map h = (h.0, next map h.1)
-  answer_then (Put row) (Found found) map h = h
-  answer_then (Put row) Done map h = λ kept. next _ (h kept)
-  answer_then (Put row) (Refused refusal) map h = put_then row refusal map h
-  answer_then (DropArchive key) (Found found) map h = h
-  answer_then (DropArchive key) Done map h = (h.0, next _ h.1)
-  answer_then (DropArchive key) (Refused refusal) map h = drop_then key refusal map h
-
-  pair_then : (request : Request) (answer : Answer) (map : RowMap) → IsPairBy request answer P map → IsPairBy request answer Q map
-  pair_then (Request.Record place request) (Answer.Record answer) map h = answer_then request answer map h
-  pair_then (Request.Record place request) (Answer.Host answer) map h = next map h
-  pair_then (Request.Host place request) answer map h = next map h
-  pair_then Request.Finished answer map h = next map h
-
-pairs_then : (t more : List Pair) (P Q : RowMap → Type 0) → ((map : RowMap) → P map → ArePairsBy more Q map) → (map : RowMap) → ArePairsBy t P map →
-    ArePairsBy (t ++ more) Q map
-pairs_then [] more P Q next map h = next map h
-pairs_then (pair ∷ t) more P Q next map h =
-    pair_then (ArePairsBy t P) (ArePairsBy (t ++ more) Q) (pairs_then t more P Q next) pair.request pair.answer map h
+pairs_more : (t more : List Pair) (map : RowMap) → ArePairsBy map t → ArePairsBy (changed_by_all (changes_of t) map) more → ArePairsBy map (t ++ more)
+pairs_more [] more map one two = two
+pairs_more (pair ∷ t) more map one two =
+    (one.0, pairs_more t more (changed_by_all (changes_of (pair ∷ [])) map) one.1 (subst (λ (m : RowMap). ArePairsBy m more) (map_after (pair ∷ []) t map) two))
 
 -- ---- a record that keeps to its map
 
 -- nothing was asked of it
 pub nothing_kept : (sound : Type 0) (holds : RowMap → Type 0) (t : List Pair) → t ≡ [] → KeepsToMap sound sound holds holds t
 nothing_kept sound holds t none =
-    subst (KeepsToMap sound sound holds holds) (sym none) (record { sound = λ h. h; by_map = λ h map held. held })
+    subst (KeepsToMap sound sound holds holds) (sym none) (record { sound = λ h. h; answers = λ h map held. tt; by_map = λ h map held. held })
 
 -- something of the host
 pub kept_by_host : (sound : Type 0) (holds : RowMap → Type 0) (place : JobPlace) (request : HostRequest) (told : Result Answer AllocError) →
     KeepsToMap sound sound holds holds (pairs_by (Request.Host place request) told)
-kept_by_host sound holds place request (Ok answer) = record { sound = λ h. h; by_map = λ h map held. held }
-kept_by_host sound holds place request (Err error) = record { sound = λ h. h; by_map = λ h map held. held }
+kept_by_host sound holds place request (Ok answer) = record { sound = λ h. h; answers = λ h map held. (tt, tt); by_map = λ h map held. held }
+kept_by_host sound holds place request (Err error) = nothing_kept sound holds [] refl
 
 -- a command
 pub kept_by_record : (before after : Type 0) (held holds : RowMap → Type 0) (place : JobPlace) (request : RecordRequest) (answer : RecordAnswer) → (after → before) →
-    (after → (map : RowMap) → held map → IsAnswerBy request answer holds map) → KeepsToMap before after held holds (pairs_by (Request.Record place request) (Ok (Answer.Record answer)))
-kept_by_record before after held holds place request answer sound by_map = record { sound = sound; by_map = by_map }
+    (after → (map : RowMap) → held map → IsToldBy map request (Ok answer) holds) → IsPut IsKept request →
+    KeepsToMap before after held holds (pairs_by (Request.Record place request) (Ok (Answer.Record answer)))
+kept_by_record before after held holds place request answer sound by_map read = record {
+  sound = sound;
+  answers = λ h map its. ((by_map h map its read).0, tt);
+  by_map = λ h map its. (by_map h map its read).1;
+}
 
 -- one that ran out of memory
 pub kept_by_none : (before after : Type 0) (held holds : RowMap → Type 0) (asks : Request) (error : AllocError) → (after → before) →
     (after → (map : RowMap) → held map → holds map) → KeepsToMap before after held holds (pairs_by asks (Err error))
-kept_by_none before after held holds asks error sound by_map = record { sound = sound; by_map = by_map }
+kept_by_none before after held holds asks error sound by_map = record { sound = sound; answers = λ h map its. tt; by_map = by_map }
 
 -- and then more
 pub kept_on : (first second third : Type 0) (has had holds : RowMap → Type 0) (t more all : List Pair) → KeepsToMap first second has had t → KeepsToMap second third had holds more →
@@ -107,5 +99,53 @@ pub kept_on : (first second third : Type 0) (has had holds : RowMap → Type 0) 
 kept_on first second third has had holds t more all one two is =
     subst (KeepsToMap first third has holds) (sym is) (record {
       sound = λ h. one.sound (two.sound h);
-      by_map = λ h map held. pairs_then t more had holds (two.by_map h) map (one.by_map (two.sound h) map held);
+      answers = λ h map its. pairs_more t more map (one.answers (two.sound h) map its) (two.answers h (changed_by_all (changes_of t) map) (one.by_map (two.sound h) map its));
+      by_map = λ h map its. subst holds (sym (map_after t more map)) (two.by_map h (changed_by_all (changes_of t) map) (one.by_map (two.sound h) map its));
     })
+
+-- ---- rows that are to be put
+
+pub no_put : (P : Fields → Type 0) (t : List Pair) → t ≡ [] → ArePut P t
+no_put P t none place row answer there = let among : Contains [] (command place (Put row) answer) = subst (λ (ps : List Pair). Contains ps (command place (Put row) answer)) none there in
+    absurd (omega (arith, among.1))
+
+pub put_more : (P : Fields → Type 0) (t more all : List Pair) → ArePut P t → ArePut P more → all ≡ t ++ more → ArePut P all
+put_more P t more all one two is place row answer there =
+    elim (Contains-append_cases t more (command place (Put row) answer) (subst (λ (ps : List Pair). Contains ps (command place (Put row) answer)) is there)) [
+      | inl before ↦ one place row answer before
+      | inr now ↦ two place row answer now
+    ]
+
+-- the row of a command
+is_put : (P : Fields → Type 0) (place : JobPlace) (request : RecordRequest) (answer : RecordAnswer) → ArePut P (command place request answer ∷ []) → IsPut P request
+is_put P place (Find key) answer all = tt
+is_put P place (Put row) answer all = all place row answer (zero, omega arith, refl)
+is_put P place (DropArchive key) answer all = tt
+
+pub put_by_record : (P : Fields → Type 0) (place : JobPlace) (request : RecordRequest) (answer : RecordAnswer) → IsPut P request →
+    ArePut P (pairs_by (Request.Record place request) (Ok (Answer.Record answer)))
+put_by_record P place request answer put p row told there =
+    let same : command place request answer ≡ command p (Put row) told = only_in (command place request answer) (command p (Put row) told) there in
+    let its : request ≡ Put row = cc in subst (IsPut P) its put
+
+pub put_by_host : (P : Fields → Type 0) (place : JobPlace) (request : HostRequest) (told : Result Answer AllocError) → ArePut P (pairs_by (Request.Host place request) told)
+put_by_host P place request (Err error) p row answer there = no_put P [] refl p row answer there
+put_by_host P place request (Ok answer) p row told there =
+    let same : record { request = Request.Host place request; answer = answer } ≡ command p (Put row) told = only_in (record { request = Request.Host place request; answer = answer }) (command p (Put row) told) there in
+    absurd cc
+
+-- ---- a record that keeps to its map where rows are such as are read back
+
+pub if_read_by_record : (before after : Type 0) (held holds : RowMap → Type 0) (place : JobPlace) (request : RecordRequest) (answer : RecordAnswer) → (after → before) →
+    (after → (map : RowMap) → held map → IsToldBy map request (Ok answer) holds) →
+    KeepsToMapIfRead before after held holds (pairs_by (Request.Record place request) (Ok (Answer.Record answer)))
+if_read_by_record before after held holds place request answer sound by_map read =
+    kept_by_record before after held holds place request answer sound by_map (is_put IsKept place request answer read)
+
+pub if_read_on : (first second third : Type 0) (has had holds : RowMap → Type 0) (t more all : List Pair) → KeepsToMapIfRead first second has had t → KeepsToMapIfRead second third had holds more →
+    all ≡ t ++ more → KeepsToMapIfRead first third has holds all
+if_read_on first second third has had holds t more all one two is read =
+    let puts : ArePut IsKept (t ++ more) = subst (ArePut IsKept) is read in
+    kept_on first second third has had holds t more all
+    (one (λ place row answer there. puts place row answer (Contains-append_left t more _ there)))
+    (two (λ place row answer there. puts place row answer (Contains-append_right t more _ there))) is

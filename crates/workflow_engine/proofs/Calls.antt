@@ -34,6 +34,13 @@ module _ (running : List ℕ) (request : HostRequest) where
       IfOk result (CanAnswer running request)
   answer_told answer r result is can own = subst Told (sym is) (by_result answer r can own)
 
+  -- so it is where each is such a one
+  pub such_told : {T : Type 0} (IsSuch : T → Type 0) (answer : T → HostAnswer) (r : Result T HostError) (result : Result HostAnswer AllocError) →
+      result ≡ answered (answer_behind answer r) → IfOk r IsSuch → ((x : T) → IsSuch x → CanAnswer running request (answer x)) → FailsOnlyBy (fault_of request) r →
+      IfOk result (CanAnswer running request)
+  such_told IsSuch answer (Ok x) result is such can own = subst Told (sym is) (can x such)
+  such_told IsSuch answer (Err error) result is such can own = fault_told error result is own
+
 -- no more of a file is read than was asked for
 pub head_told : (running : List ℕ) (path : List ℕ) (limit : ℕ) (r : Result (List ℕ) HostError) (result : Result HostAnswer AllocError) →
     result ≡ answered (answer_behind (λ bytes. HostAnswer.FirstBytes bytes) r) → IfOk r (λ bytes. length bytes ≤ limit) → FailsOnlyBy HostFault.Head r →

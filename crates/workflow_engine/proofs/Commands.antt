@@ -1,5 +1,5 @@
 -- What a record answers to a command adds its line, and the command can have it.
-use Rattle.std.specs.Prelude.{IfOk}
+use Rattle.std.specs.Prelude.{IfOk, IfSome}
 use Rattle.std.proofs.Common.{◌≡◌, ℕ, List, Option, Result, Ok, Err, refl}
 use Rattle.job_rows.specs.Log.{entries_of, told_of}
 use Rattle.job_rows.specs.declared.log.Command.{Command}
@@ -26,10 +26,11 @@ drop_logged key (Ok done) = refl
 drop_logged key (Err (Refused refusal)) = refl
 drop_logged key (Err OutOfMemory) = refl
 
-pub find_told : (key : List ℕ) (outcome : Result (Option Row) RecordError) → IfOk (found_by outcome) (CanTell (RecordRequest.Find key))
-find_told key (Ok row) = is_found key row
-find_told key (Err (Refused refusal)) = is_refused (RecordRequest.Find key) refusal
-find_told key (Err OutOfMemory) = tt
+pub find_told : (key : List ℕ) (outcome : Result (Option Row) RecordError) → IfOk outcome (λ found. IfSome found (λ row. row.key ≡ key)) →
+    IfOk (found_by outcome) (CanTell (RecordRequest.Find key))
+find_told key (Ok row) keyed = is_found key row keyed
+find_told key (Err (Refused refusal)) keyed = is_refused (RecordRequest.Find key) refusal
+find_told key (Err OutOfMemory) keyed = tt
 
 pub put_told : (row : Row) (outcome : Result (Unit {0}) RecordError) → IfOk (done_by outcome) (CanTell (RecordRequest.Put row))
 put_told row (Ok done) = is_put row

@@ -14,5 +14,6 @@ pub mod Measured
 pub mod Nothing
 pub mod Numbered
 pub mod Placed
+pub mod PutKept
 pub mod Telling
 pub mod Told

@@ -46,7 +46,7 @@ use Rattle.workflow_engine.proofs.Found.{another_on, jobs_same, memory_on, none_
 -- ---- one answer
 
 pub of_a_find : {request : RecordRequest} {answer : RecordAnswer} (its_key : List ℕ) → request ≡ RecordRequest.Find its_key → CanTell request answer → IsOfAFind answer
-of_a_find its_key is (is_found k row) = tt
+of_a_find its_key is (is_found k row keyed) = tt
 of_a_find its_key is (is_put row) = absurd cc
 of_a_find its_key is (is_dropped k) = absurd cc
 of_a_find its_key is (is_refused request refusal) = tt

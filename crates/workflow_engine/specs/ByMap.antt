@@ -1,9 +1,10 @@
 -- What a record answers to a run is so of its map, and what the map is then.
-use Rattle.std.specs.Prelude.{List, [], ◌∷◌, Result, Ok, Err}
+use Rattle.std.specs.Prelude.{◌≡◌, List, [], ◌∷◌, Option, Some, None, filter_map, Result, Ok, Err}
 use Rattle.document_links.specs.declared.process.Process.{Process}
 use Rattle.job_graph.specs.Words.{Fields}
-use Rattle.job_rows.specs.Map.{RowMap, Finds, Puts, Drops}
+use Rattle.job_rows.specs.Map.{RowMap, Kept, Change, sets, unarchives, changed_by_all, Finds}
 use Rattle.job_rows.specs.declared.refusal.RecordError.TheVariants as error
+use Rattle.job_rows.specs.declared.refusal.RecordRefusal.TheVariants.{NoRow, Store}
 use Rattle.proc_host.specs.declared.call.Entry.{Entry}
 use Rattle.run_rules.specs.Recorded.{Line}
 use Rattle.run_rules.specs.declared.outcome.Report.{Report}
@@ -18,32 +19,47 @@ use Rattle.run_rules.specs.declared.request.Request.{Request}
 use Rattle.run_rules.specs.declared.setting.Options.{Options}
 use Rattle.workflow_engine.specs.Gains.{RunsOn}
 
--- A record of this map answers the command so, and `Then` is so of the map that the command leaves. It says what comes then, as `Puts` does, since
--- the map that a put leaves is known only where its outputs are such as are read back.
-abbrev pub IsAnswerBy : RecordRequest → RecordAnswer → (Then : RowMap → Type 0) → RowMap → Type 0
-IsAnswerBy (Find key) (Found row) Then map = Finds map key (Ok row) × Then map
-IsAnswerBy (Find key) (Refused refusal) Then map = Finds map key (Err (error.Refused refusal)) × Then map
-IsAnswerBy (Put row) Done Then map = Puts Then map row (Ok tt)
-IsAnswerBy (Put row) (Refused refusal) Then map = Puts Then map row (Err (error.Refused refusal))
-IsAnswerBy (DropArchive key) Done Then map = Drops Then map key (Ok tt)
-IsAnswerBy (DropArchive key) (Refused refusal) Then map = Drops Then map key (Err (error.Refused refusal))
-IsAnswerBy request answer Then map = ⊥
+-- a record of this map answers the command so
+abbrev pub IsAnswerBy : RowMap → RecordRequest → RecordAnswer → Type 0
+IsAnswerBy map (Find key) (Found row) = Finds map key (Ok row)
+IsAnswerBy map (Find key) (Refused refusal) = Finds map key (Err (error.Refused refusal))
+IsAnswerBy map (Put row) Done = Unit {0}
+IsAnswerBy map (Put row) (Refused Store) = Unit {0}
+IsAnswerBy map (DropArchive key) Done = (kept : Kept) × (map key ≡ Some kept)
+IsAnswerBy map (DropArchive key) (Refused NoRow) = map key ≡ None
+IsAnswerBy map (DropArchive key) (Refused Store) = Unit {0}
+IsAnswerBy map request answer = ⊥
+
+-- what a command changes, where it was done
+abbrev pub change_of : RecordRequest → RecordAnswer → Option Change
+change_of (Put row) Done = Some (sets row)
+change_of (DropArchive key) Done = Some (unarchives key)
+change_of request answer = None
 
 -- what the host is asked leaves the map as it is
-abbrev pub IsPairBy : Request → Answer → (Then : RowMap → Type 0) → RowMap → Type 0
-IsPairBy (Request.Record place request) (Answer.Record answer) Then map = IsAnswerBy request answer Then map
-IsPairBy request answer Then map = Then map
+abbrev pub IsPairBy : RowMap → Request → Answer → Type 0
+IsPairBy map (Request.Record place request) (Answer.Record answer) = IsAnswerBy map request answer
+IsPairBy map request answer = Unit {0}
 
--- each answer is by the map as the commands before it left it, and `Then` is so of the map that the last one leaves
-abbrev pub ArePairsBy : List Pair → (Then : RowMap → Type 0) → RowMap → Type 0
-ArePairsBy [] Then map = Then map
-ArePairsBy (pair ∷ more) Then map = IsPairBy pair.request pair.answer (ArePairsBy more Then) map
+abbrev pub change_by : Request → Answer → Option Change
+change_by (Request.Record place request) (Answer.Record answer) = change_of request answer
+change_by request answer = None
+
+-- the changes of the commands that were done, in their order
+abbrev pub changes_of : List Pair → List Change
+changes_of t = filter_map (λ pair. change_by pair.request pair.answer) t
+
+-- each answer is by the map as the commands before it left it
+abbrev pub ArePairsBy : RowMap → List Pair → Type 0
+ArePairsBy map [] = Unit {0}
+ArePairsBy map (pair ∷ more) = IsPairBy map pair.request pair.answer × ArePairsBy (changed_by_all (changes_of (pair ∷ [])) map) more
 
 -- Where what a record is kept on has returned until after these pairs what was written to it, it had before them; and of each map that the
 -- record held then, the answers are by the map, and the record now holds what the commands that were done made of it.
 pub record KeepsToMap (sound_before sound_after : Type 0) (held holds : RowMap → Type 0) (t : List Pair) : Type 0 where
   pub sound : sound_after → sound_before
-  pub by_map : sound_after → (map : RowMap) → held map → ArePairsBy t holds map
+  pub answers : sound_after → (map : RowMap) → held map → ArePairsBy map t
+  pub by_map : sound_after → (map : RowMap) → held map → holds (changed_by_all (changes_of t) map)
 
 -- the logs of a host and of a record gained a run of this process, which is reported so, and what the record answered is by its map
 pub record RunsByMap (before after : List Entry) (lines_before lines_after : List Line) (sound_before sound_after : Type 0) (held holds : RowMap → Type 0)

@@ -1,13 +1,13 @@
 //! What the machine asks next, asked of the host or of the record.
 ghost use Rattle.std.specs.Prelude.{◌≡◌, ◌≢◌, ◌++◌, [], IfOk, OnErr};
 ghost use Rattle.job_graph.specs.Words.{JobPlace};
+ghost use Rattle.job_reuse.specs.Form.{AreInForm};
 ghost use Rattle.proc_host.specs.Log.{starts};
 ghost use Rattle.proc_host.specs.declared.call.HostRequest.TheVariants.{Collect};
 ghost use Rattle.run_rules.specs.Answers.{MayAnswer, flying_after};
-ghost use Rattle.workflow_engine.specs.ByMap.{KeepsToMap};
 ghost use Rattle.workflow_engine.specs.Gains.{commands_by, entries_by};
 ghost use Rattle.workflow_engine.specs.inner.Held.{Covers};
-ghost use Rattle.workflow_engine.specs.inner.Mapped.{pairs_by};
+ghost use Rattle.workflow_engine.specs.inner.Mapped.{ArePut, KeepsToMapIfRead, pairs_by};
 ghost use Rattle.workflow_engine.specs.inner.Numbered.{NumbersNext};
 
 use crate::ask::ask;
@@ -34,8 +34,9 @@ pub(crate) fn ask_next<H: Host, R: Record, W: Watch>(
     requires covered { Covers held.old.items (H.running host.old) }
     ensures logged { H.log host.new ≡ H.log host.old ++ entries_by asks.now result }
     ensures recorded { R.log rows.new ≡ R.log rows.old ++ commands_by asks.now result }
-    ensures by_map { KeepsToMap (R.is_sound rows.old) (R.is_sound rows.new) (R.holds rows.old)
+    ensures by_map { KeepsToMapIfRead (R.is_sound rows.old) (R.is_sound rows.new) (R.holds rows.old)
         (R.holds rows.new) (pairs_by asks.now result) }
+    ensures form { ArePut AreInForm (pairs_by asks.now result) }
     ensures answers { IfOk result (MayAnswer (H.running host.old) asks.now) }
     ensures running { IfOk result (λ answer. H.running host.new
         ≡ flying_after (H.running host.old) answer) }

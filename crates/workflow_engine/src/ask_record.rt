@@ -1,10 +1,12 @@
 //! One question to the record.
 ghost use Rattle.std.specs.Prelude.{◌≡◌, ◌++◌, IfOk};
 ghost use Rattle.run_rules.specs.Answers.{CanTell};
+ghost use Rattle.job_reuse.specs.Form.{AreInForm};
 ghost use Rattle.job_rows.specs.Map.{RowMap};
 ghost use Rattle.workflow_engine.specs.Gains.{done_by, found_by, refused_by, lines_by};
-ghost use Rattle.workflow_engine.specs.inner.Mapped.{IsToldBy};
+ghost use Rattle.workflow_engine.specs.inner.Mapped.{IsPut, IsToldBy};
 
+use job_reuse::in_form;
 use job_rows::{Record, RecordError, Row};
 use run_core::{RecordAnswer, RecordRequest};
 use std::alloc::AllocError;
@@ -18,11 +20,16 @@ pub(crate) fn ask_record<R: Record>(
     ensures answers { IfOk result (CanTell request.now) }
     ensures sound { R.is_sound rows.new → R.is_sound rows.old }
     ensures by_map { R.is_sound rows.new → (map : RowMap) → R.holds rows.old map
-        → IsToldBy request.now result (R.holds rows.new) map }
+        → IsToldBy map request.now result (R.holds rows.new) }
+    ensures form { IsPut AreInForm request.now }
 {
     match request {
         RecordRequest::Find(key) => found(rows.find(key)),
-        RecordRequest::Put(row) => done(rows.put(row)),
+        RecordRequest::Put(row) => {
+            // What the types of values say reaches contracts where the values are looked at.
+            in_form(&row.outputs);
+            done(rows.put(row))
+        }
         RecordRequest::DropArchive(key) => done(rows.drop_archive(key)),
     }
 }

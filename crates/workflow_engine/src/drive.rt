@@ -1,15 +1,18 @@
 //! A whole run on a host and a record.
 ghost use Rattle.std.specs.Prelude.{◌≡◌, ◌++◌, [], None, IfErr};
+ghost use Rattle.job_reuse.specs.Form.{AreInForm};
 ghost use Rattle.proc_host.specs.Log.{starts};
 ghost use Rattle.run_core.specs.Limits.{IsWithinLimits};
+ghost use Rattle.run_rules.specs.Answers.{AreAnswers};
 ghost use Rattle.run_rules.specs.Recorded.{lines_of};
 ghost use Rattle.run_rules.specs.Reports.{entries_of};
 ghost use Rattle.workflow_check.specs.Checked.{fault_in};
 ghost use Rattle.workflow_engine.specs.Blame.{BlamesRecord, HasRisingTickets, IsHostsFault};
 ghost use Rattle.workflow_engine.specs.inner.Held.{Covers};
+ghost use Rattle.workflow_engine.specs.inner.Mapped.{ArePut, KeepsToMapIfRead};
 ghost use Rattle.workflow_engine.specs.inner.Numbered.{AreNumbered};
 ghost use Rattle.workflow_engine.specs.inner.Told.{IsTold, MayBeTold};
-ghost use Rattle.workflow_engine.specs.ByMap.{KeepsToMap, RunsByMap};
+ghost use Rattle.workflow_engine.specs.ByMap.{RunsByMap};
 
 use crate::ask_next::ask_next;
 use crate::tickets::close_all;
@@ -33,7 +36,8 @@ use std::mem;
 ///
 /// The record is asked for the row of each job whose tool lets an earlier result be used, and to keep the row of each that was
 /// computed. As long as what it is kept on returns what was written, each of its answers is by its map, and the map at the end is
-/// that of the start after the commands that were done. Where a fault of the record is a row that it gave, that row isn't one of its
+/// that of the start after the commands that were done, with no condition on rows: each that a run puts is read back
+/// (`run_rules::rows_put_are_kept`). Where a fault of the record is a row that it gave, that row isn't one of its
 /// job's tool (`run_rules::faults_came_of_answers`).
 ///
 /// The tickets of its children rise, so no place is started more often than once and its retries
@@ -85,8 +89,10 @@ fn drive<H: Host, R: Record, W: Watch>(
     ensures setting { core.new.setting ≡ core.old.setting }
     ensures logged { H.log host.new ≡ H.log host.old ++ entries_of core.new.transcript }
     ensures recorded { R.log rows.new ≡ R.log rows.old ++ lines_of core.new.transcript }
-    ensures by_map { KeepsToMap (R.is_sound rows.old) (R.is_sound rows.new) (R.holds rows.old)
+    ensures by_map { KeepsToMapIfRead (R.is_sound rows.old) (R.is_sound rows.new) (R.holds rows.old)
         (R.holds rows.new) core.new.transcript }
+    ensures answers { AreAnswers core.new.transcript }
+    ensures form { ArePut AreInForm core.new.transcript }
     ensures numbered { AreNumbered (starts (H.log host.old)) (entries_of core.new.transcript) }
     ensures finished { core.new.asks ≡ Request.Finished }
     ensures covered { Covers held.new.items (H.running host.new) }

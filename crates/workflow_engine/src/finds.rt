@@ -114,7 +114,7 @@ fn ask_row<R: Record>(
     ensures answers { IfOk result (CanTell (Asks.Find (key job.now.tool.now job.now.inputs))) }
     ensures sound { R.is_sound rows.new → R.is_sound rows.old }
     ensures by_map { R.is_sound rows.new → (map : RowMap) → R.holds rows.old map
-        → IsToldBy (Asks.Find (key job.now.tool.now job.now.inputs)) result (R.holds rows.new) map }
+        → IsToldBy map (Asks.Find (key job.now.tool.now job.now.inputs)) result (R.holds rows.new) }
 {
     let key = key_text(alloc, job.tool, &job.inputs)?;
     ask_record(rows, &RecordRequest::Find(key))

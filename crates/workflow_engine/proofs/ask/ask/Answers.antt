@@ -1,7 +1,7 @@
 use Rattle.proc_host.specs.Answers.{is_measured, is_staged, is_listed, is_stored, is_delivered}
 use Rattle.proc_host.specs.declared.call.HostAnswer.{HostAnswer}
 use Rattle.proc_host.specs.declared.call.HostRequest.{HostRequest}
-use Rattle.workflow_engine.proofs.Calls.{answer_told, fetch_told, head_told}
+use Rattle.workflow_engine.proofs.Calls.{answer_told, fetch_told, head_told, such_told}
 use Rattle.workflow_engine.proofs.ask.ask.Goals as goal
 
 pub returns-in-Stage-clause-answers : goal.returns-in-Stage-clause-answers
@@ -21,8 +21,8 @@ returns-in-Head-clause-answers g c =
 
 pub returns-in-Scan-clause-answers : goal.returns-in-Scan-clause-answers
 returns-in-Scan-clause-answers g c =
-    rw c.in-Scan.is (answer_told (g.H.Host.running c.args.host.now) (HostRequest.Scan c.in-Scan.folder) (λ found. HostAnswer.Listed found) c.scan.result c.listed.result c.listed.ensures
-    (λ found. is_listed c.in-Scan.folder found) c.scan.ensures.own)
+    rw c.in-Scan.is (such_told (g.H.Host.running c.args.host.now) (HostRequest.Scan c.in-Scan.folder) _ (λ found. HostAnswer.Listed found) c.scan.result c.listed.result c.listed.ensures
+    c.scan.ensures.paths (λ found paths. is_listed c.in-Scan.folder found paths) c.scan.ensures.own)
 
 pub returns-in-Deliver-clause-answers : goal.returns-in-Deliver-clause-answers
 returns-in-Deliver-clause-answers g c =

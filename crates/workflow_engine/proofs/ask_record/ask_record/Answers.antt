@@ -3,7 +3,7 @@ use Rattle.workflow_engine.proofs.Commands.{drop_told, find_told, put_told}
 use Rattle.workflow_engine.proofs.ask_record.ask_record.Goals as goal
 
 pub returns-in-Find-clause-answers : goal.returns-in-Find-clause-answers
-returns-in-Find-clause-answers g c = rw (c.in-Find.is, c.found.ensures) (find_told c.in-Find.key c.find.result)
+returns-in-Find-clause-answers g c = rw (c.in-Find.is, c.found.ensures) (find_told c.in-Find.key c.find.result c.find.ensures.keyed)
 
 pub returns-in-Put-clause-answers : goal.returns-in-Put-clause-answers
 returns-in-Put-clause-answers g c = rw (c.in-Put.is, c.done.ensures) (put_told c.in-Put.row c.put.result)

@@ -1,11 +1,13 @@
 use Rattle.std.proofs.Common.{◌≡◌, ◌≢◌, ◌++◌, ◌∙◌, rules, refl, sym, ap, append-nil}
 use Rattle.proc_host.specs.Log.{starts}
+use Rattle.job_reuse.specs.Form.{AreInForm}
 use Rattle.run_rules.specs.Recorded.{lines_of}
 use Rattle.run_rules.specs.Reports.{entries_of}
 use Rattle.run_rules.specs.declared.request.Request.{Request}
 use Rattle.workflow_engine.specs.Gains.{commands_by, entries_by}
 use Rattle.workflow_engine.specs.inner.Mapped.{pairs_by}
-use Rattle.workflow_engine.proofs.ByMap.{kept_on, nothing_kept}
+use Rattle.workflow_engine.proofs.ByMap.{if_read_on, no_put, nothing_kept, put_more}
+use Rattle.workflow_engine.proofs.PutKept.{answers_on, no_answer}
 use Rattle.workflow_engine.proofs.Numbered.{none_numbered, starts-append}
 use Rattle.workflow_engine.proofs.Telling.{flies_on, grown_on, numbered_on}
 use Rattle.workflow_engine.proofs.drive.drive.Goals as goal
@@ -15,7 +17,9 @@ loop-host-init g c = record {
   setting = refl;
   logged = rw c.requires.first (sym (append-nil _));
   recorded = rw c.requires.first (sym (append-nil _));
-  by_map = nothing_kept _ _ _ c.requires.first;
+  by_map = λ read. nothing_kept _ _ _ c.requires.first;
+  answers = no_answer _ c.requires.first;
+  form = no_put AreInForm _ c.requires.first;
   flying = λ going. c.requires.flying;
   numbered = rw c.requires.first (none_numbered _);
   covered = c.requires.covered;
@@ -37,8 +41,11 @@ loop-host-preserved g c =
           c.ask_next-told.ensures.logged c.loop-host.invariant.logged entries;
       recorded = grown_on (g.R.Record.log c.args.rows.now) (g.R.Record.log c.loop-host.rows) _ (lines_of c.loop-host.core.transcript) _ _
           c.ask_next-told.ensures.recorded c.loop-host.invariant.recorded lines;
-      by_map = kept_on _ _ _ (g.R.Record.holds c.args.rows.now) (g.R.Record.holds c.loop-host.rows) _ c.loop-host.core.transcript _ _
+      by_map = if_read_on _ _ _ (g.R.Record.holds c.args.rows.now) (g.R.Record.holds c.loop-host.rows) _ c.loop-host.core.transcript _ _
           c.loop-host.invariant.by_map c.ask_next-told.ensures.by_map pairs;
+      answers = answers_on c.loop-host.core.transcript _ (g.H.Host.running c.loop-host.host) c.next-in-loop-host.result.now c.ask_next-told.result
+          c.loop-host.invariant.answers c.ask_next-told.ensures.answers pairs;
+      form = put_more AreInForm c.loop-host.core.transcript _ _ c.loop-host.invariant.form c.ask_next-told.ensures.form pairs;
       flying = flies_on c.loop-host.core c.tell.new.core (g.H.Host.running c.loop-host.host) _ c.ask_next-told.result c.tell.ensures.flying
           (c.loop-host.invariant.flying going) c.ask_next-told.ensures.running c.ask_next-told.ensures.kept;
       numbered = numbered_on (starts (g.H.Host.log c.args.host.now)) (entries_of c.loop-host.core.transcript) (entries_of c.tell.new.core.transcript)

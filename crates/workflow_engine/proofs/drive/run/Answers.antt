@@ -8,6 +8,7 @@ use Rattle.workflow_engine.proofs.Blamed.{hosts_fault}
 use Rattle.workflow_engine.proofs.Recorded.{blames_record}
 use Rattle.workflow_engine.proofs.ByMap.{nothing_kept}
 use Rattle.workflow_engine.proofs.Numbered.{none_numbered}
+use Rattle.workflow_engine.proofs.PutKept.{puts_read}
 use Rattle.workflow_engine.proofs.drive.run.Goals as goal
 
 pub returns-in_err-core-clause-run : goal.returns-in_err-core-clause-run
@@ -38,6 +39,7 @@ returns-in_err-core-clause-fault g c =
 pub returns-clause-run : goal.returns-clause-run
 returns-clause-run g c =
     let t = c.drive.new.core.transcript in
+    let concluded = subst (λ (setting : Setting). Concludes setting t c.finish.result) (c.drive.ensures.setting ∙ c.in_ok-core.ensures.ok.setting) c.finish.ensures.concluded in
     record {
       run = record {
         gained = entries_of t;
@@ -49,10 +51,10 @@ returns-clause-run g c =
           transcript = t;
           entries = refl;
           commands = refl;
-          concluded = subst (λ (setting : Setting). Concludes setting t c.finish.result) (c.drive.ensures.setting ∙ c.in_ok-core.ensures.ok.setting) c.finish.ensures.concluded;
+          concluded = concluded;
         };
       };
-      map = c.drive.ensures.by_map;
+      map = c.drive.ensures.by_map (puts_read _ t c.finish.result concluded c.drive.ensures.answers c.drive.ensures.form);
     }
 
 pub returns-clause-fault : goal.returns-clause-fault
