@@ -42,7 +42,7 @@ module _ (flying : List ℕ) (course : Course) where
       ((fault : HostFault) → answer ≡ HostAnswer.Failed fault → ⊥) → AtWork course number work answer
   at_work asks number (JobPhase.Filling filling) answer (by_host place request its (is_read path limit bytes short)) fits well = record { staged = fits; answers = tt }
   at_work asks number (JobPhase.Starting kept) answer (by_host place request its (is_started launch ticket fresh)) fits well = record { staged = fits; answers = tt }
-  at_work asks number (JobPhase.Scanning kept millis) answer (by_host place request its (is_listed folder found)) fits well = record { staged = fits; answers = tt }
+  at_work asks number (JobPhase.Scanning kept millis) answer (by_host place request its (is_listed folder found below)) fits well = record { staged = fits; answers = tt }
   at_work asks number (JobPhase.Reading kept reading) answer (by_host place request its (is_read path limit bytes short)) fits well = record { staged = fits; answers = tt }
   at_work asks number work answer (by_host place request its (has_failed call)) fits well = absurd (well (fault_of call) refl)
   at_work asks number work answer (by_host place request its can) fits well = absurd fits
@@ -111,7 +111,7 @@ module _ (flying : List ℕ) (course : Course) where
 
   pub at_record : (asks : Request) (phase : Phase) (answer : RecordAnswer) → MayAnswer flying asks (Answer.Record answer) → AsksOf course asks phase → IsReadyFor course phase →
       AtRecord phase answer
-  at_record asks (Phase.Finding number) answer (by_record place request its (is_found key row)) fits ready = record { ready = ready; waits = (fits, tt) }
+  at_record asks (Phase.Finding number) answer (by_record place request its (is_found key row same)) fits ready = record { ready = ready; waits = (fits, tt) }
   at_record asks (Phase.Finding number) answer (by_record place request its (is_refused (RecordRequest.Find key) refusal)) fits ready = record { ready = ready; waits = (fits, tt) }
   at_record asks (Phase.Putting number) answer (by_record place request its (is_put row)) fits ready = record { ready = ready; waits = (fits, tt) }
   at_record asks (Phase.Putting number) answer (by_record place request its (is_refused (RecordRequest.Put row) refusal)) fits ready = record { ready = ready; waits = (fits, tt) }

@@ -14,6 +14,7 @@ use Rattle.run_rules.specs.Plans.{PlansSoFar, no_plans}
 use Rattle.run_rules.specs.Reports.{AreWaits, entries_of}
 use Rattle.run_rules.specs.Run.{IsRunSoFar}
 use Rattle.run_rules.specs.Scene.{scene_of}
+use Rattle.run_rules.specs.UnderKey.{IsUnderKey}
 use Rattle.job_graph.specs.Words.{Fields}
 use Rattle.proc_host.specs.declared.call.HostAnswer.{HostAnswer}
 use Rattle.proc_host.specs.declared.call.HostFault.{HostFault}
@@ -52,11 +53,12 @@ pub record HasPlans (core : Machine) : Type 0 where
   pub run : IsRunSoFar core.setting core.transcript happened plans
   pub shows : Shows plans core.plan
 
--- what it asked and was answered is a run so far, whose plan it shows and after which it may ask what it asks, the first of all that it may ask; or
--- memory ran out, and after a run so far it only waits for the children in flight
+-- what it asked and was answered is a run so far, whose plan it shows and after which it may ask what it asks, the first of all that it may ask, under
+-- the key of its job; or memory ran out, and after a run so far it only waits for the children in flight
 pub data MayAsk (core : Machine) : Type 0 where
   allowed : (happened : Progress) (plans : PlansSoFar) → IsRunSoFar core.setting core.transcript happened plans → Shows plans core.plan →
-      Allowed (scene_of core.setting) happened plans.marks core.asks → IsFirst (scene_of core.setting) happened plans.marks core.asks → MayAsk core
+      Allowed (scene_of core.setting) happened plans.marks core.asks → IsFirst (scene_of core.setting) happened plans.marks core.asks →
+      IsUnderKey (scene_of core.setting) happened.events core.asks → MayAsk core
   drains : (front waits : List Pair) (happened : Progress) (plans : PlansSoFar) → IsRunSoFar core.setting front happened plans → AreWaits waits →
       core.transcript ≡ front ++ waits → core.flying ≢ [] → core.asks ≡ Request.Host [] HostRequest.Collect → MayAsk core
 

@@ -67,21 +67,21 @@ quiet_row : (place : JobPlace) (last : Option Row) (e : Event) → is_no_answer 
 quiet_row place last (row_found p row) quiet = absurd cc
 quiet_row place last _ quiet = refl
 
-quiet_rows : (place : JobPlace) (last : Option Row) (new : List Event) → list_all is_no_answer new ≡ true → fold (row_if place) last new ≡ last
+pub quiet_rows : (place : JobPlace) (last : Option Row) (new : List Event) → list_all is_no_answer new ≡ true → fold (row_if place) last new ≡ last
 quiet_rows place last [] quiet = refl
 quiet_rows place last (e ∷ new) quiet =
     let both = and_parts (is_no_answer e) (list_all is_no_answer new) quiet in
     ap (λ (o : Option Row). fold (row_if place) o new) (quiet_row place last e both.0) ∙ quiet_rows place last new both.1
 
-row_after : (es new : List Event) (place : JobPlace) → row_at (es ++ new) place ≡ fold (row_if place) (row_at es place) new
+pub row_after : (es new : List Event) (place : JobPlace) → row_at (es ++ new) place ≡ fold (row_if place) (row_at es place) new
 row_after es new place = fold-append (row_if place) None es new
 
 -- what the record tells of a row, and no other step does
-data TellsOf : Pair → List Event → Type 0 where
-  tells_row : (place : JobPlace) (its_key : Key) (row : Row) (answer : RecordAnswer) → TellsOf (command place (RecordRequest.Find its_key) answer) (row_found place row ∷ [])
+pub data TellsOf : Pair → List Event → Type 0 where
+  tells_row : (place : JobPlace) (its_key : Key) (row : Row) → TellsOf (command place (RecordRequest.Find its_key) (RecordAnswer.Found (Some row))) (row_found place row ∷ [])
   tells_none : (place : JobPlace) (its_key : Key) (answer : RecordAnswer) → TellsOf (command place (RecordRequest.Find its_key) answer) (no_row place ∷ [])
 
-abbrev IsAside : Pair → List Event → Type 0
+abbrev pub IsAside : Pair → List Event → Type 0
 IsAside p new = (list_all is_no_answer new ≡ true) ⊎ TellsOf p new
 
 ends_are_no_answers : PassesEnds is_no_answer
@@ -107,7 +107,7 @@ never_and false b is = cc
 module _ (s : Scene) where
   -- ---- which steps tell of a row
 
-  aside : (f : Progress) {p : Pair} {work : Work} {new : List Event} → Steps s f p work new → IsAside p new
+  pub aside : (f : Progress) {p : Pair} {work : Work} {new : List Event} → Steps s f p work new → IsAside p new
   aside f (measures_file path measure) = inl refl
   aside f (stages place plan number job work more known on) = inl (starts_pass is_no_answer ends_are_no_answers on)
   aside f (reads_input place path limit bytes staged todo read job work more is known on) = inl (starts_pass is_no_answer ends_are_no_answers on)
@@ -118,7 +118,7 @@ module _ (s : Scene) where
   aside f (scans place folder millis found job started wanted work more is known was wants on) = inl (collects_pass is_no_answer ends_are_no_answers (row_at f.events place) on)
   aside f (reads_output place path limit bytes millis found name todo read job started work more is known was on) = inl (collects_pass is_no_answer ends_are_no_answers (row_at f.events place) on)
   aside f (finds_none place its_key) = inr (tells_none place its_key (RecordAnswer.Found None))
-  aside f (finds place its_key row job known sound) = inr (tells_row place its_key row (RecordAnswer.Found (Some row)))
+  aside f (finds place its_key row job known sound) = inr (tells_row place its_key row)
   aside f (finds_wrong place its_key row job known unsound) = inl refl
   aside f (find_fails place its_key refusal) = inl refl
   aside f (puts place row) = inl refl
@@ -146,7 +146,7 @@ module _ (s : Scene) where
 
   module _ (f : Progress) (marks : List Mark) (place : JobPlace) where
     told_still : {p : Pair} {new : List Event} (row : Row) → Allowed s f marks p.request → row_at f.events place ≡ Some row → TellsOf p new → row_at (f.events ++ new) place ≡ Some row
-    told_still row may is (tells_row q its_key other answer) = row_after f.events (row_found q other ∷ []) place ∙ by (is_same_place q place) refl
+    told_still row may is (tells_row q its_key other) = row_after f.events (row_found q other ∷ []) place ∙ by (is_same_place q place) refl
       where
         by : (same : Bool) → is_same_place q place ≡ same → cond (is_same_place q place) (Some other) (row_at f.events place) ≡ Some row
         by true same =

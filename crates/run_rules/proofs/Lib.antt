@@ -15,6 +15,7 @@ pub mod Brought
 pub mod Elsewhere
 pub mod ElsewhereStarted
 pub mod FetchedOnce
+pub mod KeyOf
 pub mod Flying
 pub mod FailedFew
 pub mod Working

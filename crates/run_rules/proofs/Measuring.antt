@@ -200,7 +200,7 @@ module _ (s : Scene) where
       All-contains (λ (p : Name). is_measured es p ≡ true) s.paths path (AllPass-from_list_all (is_measured es) s.paths all) there in
       let never : true ≡ false = sym is ∙ none in cc
 
-  step_fits : (f : Progress) (marks : List Mark) {p : Pair} {work : Work} {new : List Event} → Allowed s f marks p.request → Steps s f p work new → Fits f.events new
+  pub step_fits : (f : Progress) (marks : List Mark) {p : Pair} {work : Work} {new : List Event} → Allowed s f marks p.request → Steps s f p work new → Fits f.events new
   step_fits f marks may (measures_file path measure) = ((λ all. not_measured f.events path may.known may.unmeasured all), tt)
   step_fits f marks may (stages place plan number job work more known on) = (
     tt,

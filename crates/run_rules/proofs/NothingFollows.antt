@@ -22,18 +22,18 @@ use Rattle.run_rules.proofs.Finding.{found_in}
 use Rattle.run_rules.proofs.Places.{same_place}
 use Rattle.run_rules.proofs.events.Places.{IsFound, found_is}
 
-yes_and_no : (b : Bool) → b ≡ true → b ≡ false → ⊥
+pub yes_and_no : (b : Bool) → b ≡ true → b ≡ false → ⊥
 yes_and_no b is is_not = let never : true ≡ false = sym is ∙ is_not in cc
 
 some_and_none : {X : Type 0} (o : Option X) (x : X) → o ≡ Some x → o ≡ None → ⊥
 some_and_none o x is is_not = let never : Some x ≡ None = sym is ∙ is_not in cc
 
-some_in_none : {X : Type 0} (xs : List X) (x : X) → xs ≡ [] → Contains xs x → ⊥
+pub some_in_none : {X : Type 0} (xs : List X) (x : X) → xs ≡ [] → Contains xs x → ⊥
 some_in_none xs x is_none there =
     let here : Contains [] x = subst (λ ys. Contains ys x) is_none there in
     let within : here.0 < 0 = here.1 in omega arith
 
-not_due : (s : Scene) (f : Progress) (request : Request) → f.work ≡ nothing_due → due s f ≡ Some request → ⊥
+pub not_due : (s : Scene) (f : Progress) (request : Request) → f.work ≡ nothing_due → due s f ≡ Some request → ⊥
 not_due s f request idle is = some_and_none (due s f) request is (ap (due_in s f.events) idle)
 
 same_some : {X : Type 0} (o : Option X) (x y : X) → o ≡ Some x → o ≡ Some y → x ≡ y
@@ -87,7 +87,7 @@ module _ (s : Scene) (f : Progress) (marks : List Mark) where
   after_delivery outputs delivered place plan result (copied its_plan is delivery) may = some_and_none (delivered_at f.events) its_plan is may.only
 
   -- where the row of no job is looked for any more, none may be
-  no_find : (place : JobPlace) (its_key : Key) → IsFree s f → MayFind s f place its_key → ⊥
+  pub no_find : (place : JobPlace) (its_key : Key) → IsFree s f → MayFind s f place its_key → ⊥
   no_find place its_key free may =
       let it : IsFound (unfolding_at s f.events).jobs place may.job = found_is (unfolding_at s f.events).jobs place may.job may.known in
       let here : may.job.place ≡ place = same_place may.job.place place it.same in

@@ -19,6 +19,7 @@ pub mod Reports
 pub mod RanWell
 pub mod OfAnswers
 pub mod HowOften
+pub mod UnderKey
 pub mod PlannedFirst
 pub mod Followed
 pub mod Answers

@@ -53,6 +53,7 @@ ghost use Rattle.run_rules.specs.Run.{IsRun, IsRunSoFar};
 ghost use Rattle.run_rules.specs.Scene.{NothingWasMadeBefore, Scene, scene_of};
 ghost use Rattle.run_rules.specs.RanWell.{HasOutputs};
 ghost use Rattle.run_rules.specs.Steps.{command};
+ghost use Rattle.run_rules.specs.UnderKey.{IsUnderKey};
 
 use job_graph::{
     failed_jobs_fail_eval, faults_fail_eval, known_jobs_agree, known_places_differ,
@@ -259,3 +260,17 @@ pub fn rows_put_are_kept()
 {
     collected_outputs_are_kept();
 }
+
+/// Says that each command to the record for the job at a place is about the key of that job, and that its files are fetched and
+/// archived under it, if each answer before was one that its call can give: a row that is found has the key that was asked for.
+pub fn keys_are_those_of_the_jobs()
+    ensures asked { (setting : Setting) (t : List Pair) (f : Progress) (plans : PlansSoFar)
+        (pair : Pair)
+        → IsRunSoFar setting t f plans → AreAnswers t → Contains t pair
+        → IsUnderKey (scene_of setting) f.events pair.request }
+    ensures next { (setting : Setting) (t : List Pair) (f : Progress) (plans : PlansSoFar)
+        (request : Request)
+        → IsRunSoFar setting t f plans → AreAnswers t
+        → Allowed (scene_of setting) f plans.marks request
+        → IsUnderKey (scene_of setting) f.events request }
+{}

@@ -4,7 +4,9 @@ use Rattle.std.proofs.Common.{◌≡◌, [], refl, ap}
 use Rattle.proc_host.specs.declared.call.HostRequest.{HostRequest}
 use Rattle.job_graph.specs.Words.{JobPlace}
 use Rattle.run_rules.specs.declared.request.Request.{Request}
+use Rattle.run_rules.specs.Plans.{InForce}
 use Rattle.run_rules.specs.Scene.{scene_of}
+use Rattle.run_rules.proofs.KeyOf.{next_under_key}
 use Rattle.run_core.specs.declared.runner.RunCore.TheInside.{Inside}
 use Rattle.run_core.specs.declared.state.Turn.{Turn}
 use Rattle.run_core.specs.Core.{HasNotRunOut, HasPlans, MayAsk, allowed, drains}
@@ -43,6 +45,8 @@ module _ (core : Inside) where
       allowed runs.happened runs.plans runs.goes runs.planned.0
       (allows core.given stands.rates (laws_of core.given stands.accepted stands.ids) stands.limits.least_slots core.pairs.items core.course core.turn runs asks)
       (is_first core.given stands.rates (laws_of core.given stands.accepted stands.ids) stands.limits.least_slots core.pairs.items core.course core.turn runs asks)
+      (next_under_key (scene_of (setting_in core.given)) (InForce (scene_of (setting_in core.given))) runs.goes stands.answered core.turn.asks
+      (allows core.given stands.rates (laws_of core.given stands.accepted stands.ids) stands.limits.least_slots core.pairs.items core.course core.turn runs asks))
   may_ask_so stands (off_run out) asks =
       drains out.front out.tail out.happened out.plans out.goes out.collects out.pairs (lost_some (past_of core.course) out.at asks)
       (lost_collects (past_of core.course) out.at asks)

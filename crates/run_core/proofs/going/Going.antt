@@ -103,7 +103,7 @@ module _ (s : Scene) (given : Given) (same : given.options ≡ s.options) (rated
         start_goes_on s given t next_picks f plans goes old n job launch ticket planned r fresh turn new phase w follows
     work_by n job phase (has_ended ending there) r w follows =
         absurd (for_job s.options (state_at old.jobs n).folder [] HostRequest.Collect phase w.calls.due)
-    work_by n job phase (is_listed folder found) r w follows =
+    work_by n job phase (is_listed folder found below) r w follows =
         listing_goes_on s given same laws t next_picks f plans goes old n job folder found planned r turn new phase w follows
     work_by n job phase (is_read path limit bytes few) r w follows =
         bytes_go_on s given same laws t next_picks f plans goes old n job path limit bytes planned r turn new phase w follows

@@ -1,6 +1,6 @@
 -- That what may be asked is the first of all that may be, if it is so of the jobs that are known.
-use Rattle.std.specs.Prelude.{◌<◌, ◌≤◌, ◌≢◌, ◌||◌, Contains, not}
-use Rattle.std.proofs.Common.{◌≡◌, ◌∙◌, inl, inr, ℕ, Bool, true, false, List, [], Some, None, refl, sym, ap, subst, arith}
+use Rattle.std.specs.Prelude.{◌<◌, ◌≤◌, ◌≢◌, ◌||◌, not}
+use Rattle.std.proofs.Common.{◌≡◌, ◌∙◌, inl, inr, ℕ, Bool, true, false, List, [], Some, None, refl, sym, ap, arith}
 use Rattle.std.proofs.lemmas.Bool.{cases_lt}
 use Rattle.plan_checker.specs.declared.plan.Mark.{Mark}
 use Rattle.proc_host.specs.declared.call.HostRequest.{HostRequest}
@@ -11,18 +11,13 @@ use Rattle.job_graph.specs.Words.{JobPlace, Name}
 use Rattle.job_key.specs.Key.{Key}
 use Rattle.run_rules.specs.declared.request.RecordRequest.{RecordRequest}
 use Rattle.run_rules.specs.declared.request.Request.{Request}
-use Rattle.run_rules.specs.Allowed.{Allowed, IsBusy, IsFree, IsOpen, MayCollect, MayFetch, MayFind, MayMeasure, MayStage, due, due_in}
+use Rattle.run_rules.specs.Allowed.{Allowed, IsBusy, IsFree, IsOpen, MayCollect, MayFetch, MayFind, MayMeasure, MayStage, due}
 use Rattle.run_rules.specs.End.{End, settled}
 use Rattle.run_rules.specs.Events.{Progress, are_measured, has_no_find, in_flight, is_looked_up, is_reusable, nothing_due}
 use Rattle.run_rules.specs.Plans.{number_of}
 use Rattle.run_rules.specs.Scene.{Scene}
 use Rattle.run_rules.proofs.Measuring.{not_measured}
-use Rattle.job_graph.specs.Unfold.{is_at}
-use Rattle.std.specs.List.{list_all}
-use Rattle.std.proofs.lemmas.List.Elements.{All-contains}
-use Rattle.std.proofs.lemmas.List.Sums.{AllPass-from_list_all}
-use Rattle.run_rules.proofs.Finding.{found_in}
-use Rattle.std.proofs.Common.{Option}
+use Rattle.run_rules.proofs.NothingFollows.{no_find, not_due, some_in_none, yes_and_no}
 use Rattle.run_rules.proofs.Places.{same_place}
 use Rattle.run_rules.proofs.Staying.{measured_if_known}
 use Rattle.run_rules.proofs.events.Asks.{NoneMayFetch}
@@ -30,31 +25,6 @@ use Rattle.run_rules.proofs.events.Lookups.{LooksUp}
 use Rattle.run_rules.proofs.events.Places.{AreApart, IsFound, IsJob, found_is, number_is}
 use Rattle.run_rules.proofs.events.Planned.{jobs_in}
 use Rattle.run_core.specs.Order.{IsFirst, place_of, rule_of}
-
-yes_and_no : (b : Bool) → b ≡ true → b ≡ false → ⊥
-yes_and_no b is is_not = let never : true ≡ false = sym is ∙ is_not in cc
-
-some_and_none : {X : Type 0} (o : Option X) (x : X) → o ≡ Some x → o ≡ None → ⊥
-some_and_none o x is is_not = let never : Some x ≡ None = sym is ∙ is_not in cc
-
-some_in_none : {X : Type 0} (xs : List X) (x : X) → xs ≡ [] → Contains xs x → ⊥
-some_in_none xs x is_none there =
-    let here : Contains [] x = subst (λ ys. Contains ys x) is_none there in
-    let within : here.0 < 0 = here.1 in omega arith
-
-not_due : (s : Scene) (f : Progress) (request : Request) → f.work ≡ nothing_due → due s f ≡ Some request → ⊥
-not_due s f request idle is = some_and_none (due s f) request is (ap (due_in s f.events) idle)
-
-yes_if_none : {X : Type 0} (xs : List X) (test : X → Bool) (x : X) → list_all test xs ≡ true → Contains xs x → test x ≡ false → ⊥
-yes_if_none {X = X} xs test x all there is_not =
-    yes_and_no (test x) (All-contains (λ (y : X). test y ≡ true) xs x (AllPass-from_list_all test xs all) there) is_not
-
-no_find : (s : Scene) (f : Progress) (marks : List Mark) (place : JobPlace) (its_key : Key) → IsFree s f → MayFind s f place its_key → ⊥
-no_find s f marks place its_key free may =
-    let it : IsFound (jobs_in s f) place may.job = found_is (jobs_in s f) place may.job may.known in
-    let here : may.job.place ≡ place = same_place may.job.place place it.same in
-    yes_if_none (jobs_in s f) (has_no_find f.events) may.job free.looked_up (found_in (is_at place) (jobs_in s f) may.job may.known)
-    (ap (λ b. not b || is_looked_up f.events may.job.place) may.reusable ∙ ap (is_looked_up f.events) here ∙ may.unasked)
 
 -- what depends on which jobs are known: of those of its rule it is for the lowest one, and a job is staged only if no files may be fetched
 abbrev pub IsLowest : Scene → Progress → List Mark → Request → Type 0

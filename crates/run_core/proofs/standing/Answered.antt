@@ -184,7 +184,7 @@ module _ (given : Given) (old : Course) (entries : List Entry) (turn : Turn) (ne
       (books_start given.options entries (past_of old) number kept ticket (record { bounded = bounded; blames = blames }))) follows.picks
   step_leaves asks (Phase.Working number (JobPhase.Starting kept)) answer (by_host place request its (has_failed call)) fits goes knows told bounded blames follows =
       after_fault place (fault_of call) told (record { bounded = bounded; blames = blames }) follows
-  step_leaves asks (Phase.Working number (JobPhase.Scanning kept millis)) answer (by_host place request its (is_listed folder found)) fits goes knows told bounded blames follows =
+  step_leaves asks (Phase.Working number (JobPhase.Scanning kept millis)) answer (by_host place request its (is_listed folder found below)) fits goes knows told bounded blames follows =
       turns_leave given.options entries given refl old number follows.next turn new few knows (record { bounded = bounded; blames = blames }) follows.turns
   step_leaves asks (Phase.Working number (JobPhase.Scanning kept millis)) answer (by_host place request its (has_failed call)) fits goes knows told bounded blames follows =
       after_fault place (fault_of call) told (record { bounded = bounded; blames = blames }) follows

@@ -224,7 +224,7 @@ module _ (s : Scene) (least : EachHasLeast) (t : List Pair) (f : Progress) (plan
         fill_anyway path limit bytes filling next.0 next.1 w.due allowed
     work_anyway call (JobPhase.Starting kept) answer (is_started launch ticket fresh) w fits allowed =
         goes_with _ nothing_due (job_started job.place kept.inputs launch ticket ∷ []) allowed (starts job.place kept.inputs launch ticket w.due)
-    work_anyway call (JobPhase.Scanning kept millis) answer (is_listed folder found) w fits allowed = scan_anyway folder millis found kept w.due w.on allowed
+    work_anyway call (JobPhase.Scanning kept millis) answer (is_listed folder found below) w fits allowed = scan_anyway folder millis found kept w.due w.on allowed
     work_anyway call (JobPhase.Reading kept reading) answer (is_read path limit bytes short) w fits allowed =
         read_anyway path limit bytes kept reading (output_next s.options (state_at course.jobs number).folder (HostRequest.Head path limit) reading.millis reading.found reading.heads (reverse reading.left) w.calls.due)
         w.on w.due allowed
@@ -277,9 +277,9 @@ module _ (s : Scene) (least : EachHasLeast) (t : List Pair) (f : Progress) (plan
       goes_with _ nothing_due (file_measured path measure ∷ []) allowed (measures_file path measure)
   at_goes_on can (measuring found which rest path m is f_is none past) fits (by_host place request answer (has_failed call)) allowed =
       fails_anyway [] (HostRequest.Measure path) refl allowed
-  at_goes_on can (finding number job reflects next) fits (by_record place request answer (is_found its None)) allowed =
+  at_goes_on can (finding number job reflects next) fits (by_record place request answer (is_found its None same)) allowed =
       goes_with _ nothing_due (no_row job.place ∷ []) allowed (finds_none job.place its)
-  at_goes_on can (finding number job reflects next) fits (by_record place request answer (is_found its (Some row))) allowed =
+  at_goes_on can (finding number job reflects next) fits (by_record place request answer (is_found its (Some row) same)) allowed =
       row_anyway job its row (known_there s f.events course None number job next.it reflects) (can.rows job.tool row can.row) allowed
   at_goes_on can (finding number job reflects next) fits (by_record place request answer (is_refused its refusal)) allowed =
       goes_with _ nothing_due (find_failed job.place refusal ∷ []) allowed (find_fails job.place _ refusal)

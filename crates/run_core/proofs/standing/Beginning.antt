@@ -3,12 +3,14 @@ use Rattle.std.proofs.Common.{◌≡◌, ◌∙◌, ℕ, ◌+◌, ◌≤◌, tru
 use Rattle.proc_host.specs.declared.call.Entry.{Entry}
 use Rattle.workflow_check.specs.Checked.{fault_in}
 use Rattle.job_graph.specs.Apart.{ids_differ}
+use Rattle.run_rules.specs.Answers.{AreAnswers}
 use Rattle.run_rules.specs.Blame.{WereStarted}
 use Rattle.run_rules.specs.Reports.{entries_of}
 use Rattle.run_rules.specs.Scene.{scene_of}
 use Rattle.run_rules.specs.declared.request.Pair.{Pair}
 use Rattle.run_rules.specs.declared.setting.Options.{Options}
 use Rattle.run_rules.proofs.Rising.{none_started}
+use Rattle.run_rules.proofs.TranscriptTells.{none_in}
 use Rattle.run_core.specs.Core.{Begins}
 use Rattle.run_core.specs.inner.Inside.{rates_of, Stands, on_run, seen, setting_in}
 use Rattle.run_core.specs.Limits.{IsWithinLimits}
@@ -67,6 +69,7 @@ module _ (core : Inside) (limits : IsWithinLimits core.given.options) (rated : c
     accepted = accepted;
     ids = ids;
     going = on_run (subst (λ (t : List Pair). Runs (scene_of (setting_in core.given)) t core.course core.turn) (sym empty) runs);
+    answered = subst AreAnswers (sym empty) (λ pair there. absurd (none_in pair there));
     bounded = leaves.bounded;
     blames = leaves.blames;
     started = λ asks. subst (λ (ns : List ℕ). WereStarted (entries_of core.pairs.items) ns) (sym none_flies) (none_started (entries_of core.pairs.items));

@@ -322,7 +322,7 @@ module _ (given : Given) (old : Course) where
         (ap (weight_of_past given.options) follows.past ∙ start_rises given.options (past_of old) number kept ticket)
     step_fewer asks (Phase.Working number (JobPhase.Starting kept)) answer (by_host place request its (has_failed call)) fits goes knows bounded some follows =
         fault_fewer place (fault_of call) turn new (many_files + 7) (omega arith) follows
-    step_fewer asks (Phase.Working number (JobPhase.Scanning kept millis)) answer (by_host place request its (is_listed folder found)) fits goes knows bounded some follows =
+    step_fewer asks (Phase.Working number (JobPhase.Scanning kept millis)) answer (by_host place request its (is_listed folder found below)) fits goes knows bounded some follows =
         turns_fewer knows turn new number follows.next (many_files + 3) (many_files + 4) (omega arith)
         (collects_by_lists follows.site kept millis found [] follows.collects.wanted follows.next follows.collects.on) (omega arith) follows.turns
     step_fewer asks (Phase.Working number (JobPhase.Scanning kept millis)) answer (by_host place request its (has_failed call)) fits goes knows bounded some follows =

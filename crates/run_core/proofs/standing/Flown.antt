@@ -200,7 +200,7 @@ module _ (given : Given) where
         flies_on _ _ (picks_fly follows.started turn new follows.picks ∙ ap (λ (p : Past). p.tickets) follows.past)
     step_flies it (Phase.Working number (JobPhase.Starting kept)) answer (by_host place request its (has_failed call)) fits goes knows follows =
         flies_on _ _ (fault_fly old place _ turn new follows)
-    step_flies it (Phase.Working number (JobPhase.Scanning kept millis)) answer (by_host place request its (is_listed folder found)) fits goes knows follows =
+    step_flies it (Phase.Working number (JobPhase.Scanning kept millis)) answer (by_host place request its (is_listed folder found below)) fits goes knows follows =
         flies_on _ _ (turns_fly old number follows.next turn new knows follows.turns)
     step_flies it (Phase.Working number (JobPhase.Scanning kept millis)) answer (by_host place request its (has_failed call)) fits goes knows follows =
         flies_on _ _ (fault_fly old place _ turn new follows)

@@ -180,6 +180,7 @@ module _ (core : Inside) (asks : core.turn.asks ≢ Request.Finished) where
       accepted = stands.accepted;
       ids = stands.ids;
       going = off_run (off_now stands.going turn at);
+      answered = stands.answered;
       bounded = lost_bounded_at core.given.options past at;
       blames = lost_blames_at (entries_of core.pairs.items) past at;
       started = λ asks_then. stands.started asks;

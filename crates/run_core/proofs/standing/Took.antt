@@ -1,9 +1,9 @@
 -- What the machine's callers learn of an answer taken.
 use Rattle.std.specs.Prelude.{◌≢◌}
-use Rattle.std.proofs.Common.{◌≡◌, ◌∙◌, ℕ, ◌+◌, ◌<◌, ◌≤◌, List, [], ◌∷◌, ◌++◌, Vec, Global, length, vec_len, vec_capacity, Result, refl, sym, ap, subst, arith}
-use Rattle.std.proofs.lemmas.List.Elements.{filter_map-append}
+use Rattle.std.proofs.Common.{◌≡◌, ◌∙◌, ◌⊎◌, inl, inr, ℕ, ◌+◌, ◌<◌, ◌≤◌, List, [], ◌∷◌, ◌++◌, Vec, Global, length, vec_len, vec_capacity, Result, refl, sym, ap, subst, arith}
+use Rattle.std.proofs.lemmas.List.Elements.{Contains-push_cases, filter_map-append}
 use Rattle.proc_host.specs.declared.call.HostRequest.{HostRequest}
-use Rattle.run_rules.specs.Answers.{MayAnswer, flying_after}
+use Rattle.run_rules.specs.Answers.{AreAnswers, MayAnswer, flying_after}
 use Rattle.run_rules.specs.Blame.{WereStarted}
 use Rattle.run_rules.specs.Reports.{entries_of, entry_of}
 use Rattle.run_rules.specs.Scene.{scene_of}
@@ -48,6 +48,7 @@ stands_counted core answers stands = record {
   accepted = stands.accepted;
   ids = stands.ids;
   going = goes_counted core answers stands.going;
+  answered = stands.answered;
   bounded = stands.bounded;
   blames = stands.blames;
   started = stands.started;
@@ -74,8 +75,15 @@ pairs_fit pairs room past last old new same (no_room fits) =
     smaller : (n m a b : ℕ) → n + b ≤ m → a ≤ b → n + a ≤ m
     smaller n m a b fits less = omega (arith, fits, less)
 
+-- each answer was one that its call can give
+one_more_answered : (flying : List ℕ) (t : List Pair) (request : Request) (answer : Answer) → AreAnswers t → MayAnswer flying request answer → AreAnswers (t ++ noted request answer ∷ [])
+one_more_answered flying t request answer before may pair there = elim (Contains-push_cases t (noted request answer) pair there) [
+  | inl earlier ↦ before pair earlier
+  | inr same ↦ subst (λ (p : Pair). (running : List ℕ) × MayAnswer running p.request p.answer) same (flying, may)
+]
+
 module _ (core : Inside) (answer : Answer) (pairs : Vec Pair Global) (course : Course) (turn : Turn) (stands : Stands core)
-    (longer : pairs.items ≡ core.pairs.items ++ noted core.turn.asks answer ∷ []) (room : HasRoom course turn.phase)
+    (may : MayAnswer core.course.tickets.items core.turn.asks answer) (longer : pairs.items ≡ core.pairs.items ++ noted core.turn.asks answer ∷ []) (room : HasRoom course turn.phase)
     (fits : vec_len pairs + pairs_ahead (past_of course) turn.phase ≤ vec_capacity pairs)
     (it : Taken core.given core.pairs.items core.course core.turn answer turn course)
     (began : WereStarted (entries_of (core.pairs.items ++ noted core.turn.asks answer ∷ [])) (flying_after core.course.tickets.items answer)) where
@@ -86,6 +94,7 @@ module _ (core : Inside) (answer : Answer) (pairs : Vec Pair Global) (course : C
     accepted = stands.accepted;
     ids = stands.ids;
     going = goes_so (core_with core pairs course turn) (core.pairs.items ++ noted core.turn.asks answer ∷ []) longer it.going;
+    answered = subst AreAnswers (sym longer) (one_more_answered core.course.tickets.items core.pairs.items core.turn.asks answer stands.answered may);
     bounded = it.bounded;
     blames = subst (λ (t : List Pair). Blames (entries_of t) (past_of course) turn.phase) (sym longer) it.blames;
     started = λ asks. subst (λ (ns : List ℕ). WereStarted (entries_of pairs.items) ns) (sym (it.flying asks))
@@ -144,7 +153,7 @@ module _ (core : Inside) (answer : Answer) (runs_on : RunsOn core.given core.pai
       MakesRoom (vec_len pairs) (vec_capacity pairs) (past_of new) next turn → past_of course ≡ past_of new → course.known ≡ new.known → HasRoom course turn.phase →
       result ≡ told_of turn.phase → Stands (core_with core pairs course turn) × Took (seen core) answer result (seen (core_with core pairs course turn))
   took pairs new course next turn result can longer moved made same known room is =
-      took_told core answer pairs course turn stands longer room (pairs_fit (vec_len pairs) (vec_capacity pairs) (past_of new) (past_of course) next turn same made)
+      took_told core answer pairs course turn stands may longer room (pairs_fit (vec_len pairs) (vec_capacity pairs) (past_of new) (past_of course) next turn same made)
       (taken_same core.given core.pairs.items core.course core.turn answer turn new course same known
       (taken core.given core.pairs.items runs_on core.course core.turn answer next turn new (vec_len pairs) (vec_capacity pairs) (going_of core stands.going) may can
       stands.bounded stands.blames (stands.started (asks_some may)) moved made)) (started_after core.pairs.items may (stands.started (asks_some may))) result is

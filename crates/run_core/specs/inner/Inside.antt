@@ -4,6 +4,7 @@ use Rattle.job_graph.specs.Apart.{ids_differ}
 use Rattle.run_rules.specs.declared.request.Request.{Request}
 use Rattle.run_rules.specs.declared.setting.Options.{Options}
 use Rattle.run_rules.specs.declared.setting.Setting.{Setting}
+use Rattle.run_rules.specs.Answers.{AreAnswers}
 use Rattle.run_rules.specs.Blame.{WereStarted}
 use Rattle.run_rules.specs.Reports.{entries_of}
 use Rattle.run_rules.specs.Scene.{scene_of}
@@ -48,7 +49,7 @@ pub data Goes (core : Inside) : Type 0 where
   on_run : Runs (scene_of (setting_in core.given)) core.pairs.items core.course core.turn → Goes core
   off_run : RanOut (scene_of (setting_in core.given)) core.pairs.items (past_of core.course) core.turn → Goes core
 
--- its process is an accepted one, what it blames on the host is so, and while it asks the children in flight were started, and there is room for
+-- its process is an accepted one, each answer was one that its call can give, what it blames on the host is so, and while it asks the children in flight were started, and there is room for
 -- the answer
 pub record Stands (core : Inside) : Type 0 where
   pub limits : IsWithinLimits core.given.options
@@ -56,6 +57,7 @@ pub record Stands (core : Inside) : Type 0 where
   pub accepted : fault_in core.given.process.now ≡ None
   pub ids : ids_differ core.given.process.now ≡ true
   pub going : Goes core
+  pub answered : AreAnswers core.pairs.items
   pub bounded : StaysBounded core.given.options (past_of core.course) core.turn.phase
   pub blames : Blames (entries_of core.pairs.items) (past_of core.course) core.turn.phase
   pub started : core.turn.asks ≢ Request.Finished → WereStarted (entries_of core.pairs.items) core.course.tickets.items
