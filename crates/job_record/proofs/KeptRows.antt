@@ -1,6 +1,6 @@
 -- What the commands make of the rows that a record holds.
 use Rattle.std.proofs.Common.{◌≡◌, inl, inr, ℕ, ℤ, zero, suc, pos, min, ◌-◌, ◌^◌, if◌then◌else◌, Bool, true, false, not, List, [], ◌++◌, Option, Some, None, option_map, Result, Ok, Err, IsTrue, refl, sym, ap, subst, ◌∙◌, arith}
-use Rattle.std.specs.Prelude.{OnOk, bytes_eq}
+use Rattle.std.specs.Prelude.{OnOk, IfOk, IfSome, bytes_eq}
 use Rattle.std.specs.Ordering.{int_eq}
 use Rattle.sqlite.specs.Store.{Ghosts}
 use Rattle.sqlite.specs.Order.{Row as Columns}
@@ -105,7 +105,7 @@ module _ {S : Type 0} (g : Ghosts S) (old new : Held S) (map : RowMap) (h : Hold
   found key (Ok None) raw open_then finds = none_kept (map key) (has open_then key None (finds (h.safe.shown open_then).0).0)
   found key (Ok (Some row)) raw open_then finds =
       let f = finds (h.safe.shown open_then).0 in
-      row_kept f.0 (map key) row (has open_then key (Some f.0) f.1) f.2
+      (row_kept f.0 (map key) row (has open_then key (Some f.0) f.1) f.2, raw.3)
   found key (Err NotARecord) raw open_then finds =
       let f = finds (h.safe.shown open_then).0 in
       unread_kept f.0 (map key) (has open_then key (Some f.0) f.1) f.2
@@ -182,7 +182,11 @@ opens_rows old new safe = record {
   taken = λ it map rows. record { columns = held old; refused = []; safe = safe.taken it; rows = rows };
 }
 
--- ---- the log
+-- ---- what is told of it
+
+pub keyed_answered : (key : List ℕ) (r : Result (Option Row) RecordFault) → IfOk r (λ found. IfSome found (λ row. row.key ≡ key)) → IfOk (answered r) (λ found. IfSome found (λ row. row.key ≡ key))
+keyed_answered key (Ok found) is = is
+keyed_answered key (Err fault) is = tt
 
 told_same : {T : Type 0} (r : Result T RecordFault) → told_of_row (answered r) ≡ told_of r
 told_same (Ok value) = refl

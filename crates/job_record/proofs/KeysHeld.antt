@@ -1,11 +1,11 @@
 -- The keys that are listed are those of the map.
-use Rattle.std.proofs.Common.{◌≡◌, ◌⊎◌, inl, inr, ℕ, ◌+◌, ◌<◌, List, [], ◌∷◌, ◌++◌, take, drop, length, get_or, Some, Ok, Err, Result, IsTrue, refl, sym, ap, subst, ◌∙◌, arith}
+use Rattle.std.proofs.Common.{◌≡◌, inl, inr, ℕ, ◌+◌, ◌<◌, List, [], ◌∷◌, ◌++◌, take, drop, length, get_or, Some, Ok, Err, Result, IsTrue, refl, sym, ap, subst, ◌∙◌, arith}
 use Rattle.std.proofs.lemmas.List as lists
 use Rattle.sqlite.specs.Store.{Ghosts}
 use Rattle.sqlite.specs.declared.types.Value.TheVariants.{Text}
 use Rattle.sqlite.specs.Order.{Row as Columns, column}
 use Rattle.sqlite.specs.Tree.{Trees}
-use Rattle.sqlite.specs.State.{State, HasCleanDisk, IsUnchanged, Survives, Shown, CommitsShowing}
+use Rattle.sqlite.specs.State.{State, HasCleanDisk, Survives, Shown, CommitsShowing}
 use Rattle.sqlite.specs.Held.{Held, state}
 use Rattle.sqlite_rules.specs.Lists.{Has}
 use Rattle.sqlite_rules.proofs.ListLemmas.{any_has}
@@ -18,7 +18,7 @@ use Rattle.job_record.specs.Map.{held, IsRecord, Stands, KeysIn}
 use Rattle.job_record.specs.Crash.{ReadsSafely}
 use Rattle.job_record.specs.inner.Crash.{RunsOpen}
 use Rattle.job_record.proofs.Shapes.{laid_in}
-use Rattle.job_record.proofs.RowMap.{row_held}
+use Rattle.job_record.proofs.RowMap.{row_held, key_held}
 use Rattle.job_record.proofs.Reading.{list_is_plain, failed_same, all_found, listed, lists_all}
 use Rattle.job_record.proofs.MapSteps.{same_shows, undone_stands, listed_same}
 use Rattle.job_record.proofs.SafeCalls.{reads_safe}
@@ -65,7 +65,7 @@ module _ (old new : State) (it : IsRecord old) where
       let r = row_held (old.now.trees 2) key c h in
       let laid = laid_in old.now it.schema it.sound r.0 r.1 in
       let is = r.3 ∙ ap (λ (z : Columns). drop 1 z) laid.is in
-      (ap (λ (z : Columns). column z 0) is ∙ sym (ap (λ (z : Columns). column z 1) laid.is) ∙ r.2, has_length c laid.key _ is)
+      (key_held (old.now.trees 2) key c h, has_length c laid.key _ is)
 
   module _ (all : List Columns) (shown : Shown list_text [] old new all) where
     held_of : (c : Columns) → Has all c → (key : List ℕ) × (held old key ≡ Some c)

@@ -16,6 +16,8 @@ use Rattle.job_record.specs.Map.{held_in, IsKeyed, IsRecord, IsSame, Stands, Fin
 use Rattle.job_record.proofs.OneKey.{drops, forgets}
 use Rattle.job_record.specs.Texts.{texts_of}
 use Rattle.job_record.proofs.Putting.{puts}
+use Rattle.job_record.proofs.OneRow.{row_with}
+use Rattle.job_record.proofs.RowMap.{key_held}
 use Rattle.job_record.proofs.Reading.{find_is_plain, row_same, error_same, row_found, none_found, none_same, shown_same, failed_same, list_is_plain, all_found, listed, lists_all, list_sorted}
 use Rattle.sqlite_rules.proofs.ListLemmas.{any_has}
 use Rattle.job_record.specs.Columns.{IsUnread}
@@ -83,7 +85,9 @@ module _ {S : Type 0} (g : Ghosts S) (old new : Held S) where
       (h.0, row_found (state g old) (state g new) key it h.0 h.1, h.2, u, (same_shows (state g old) (state g new) it u).1)
   find_is_map key (Err NotARecord) h it =
       let u = row_same find_text (key_params key) (state g old) (state g new) (find_is_plain (state g old) (state g new) key it) h.0 h.1 in
-      (h.0, row_found (state g old) (state g new) key it h.0 h.1, h.2, u, (same_shows (state g old) (state g new) it u).1)
+      let held = row_found (state g old) (state g new) key it h.0 h.1 in
+      let unread : IsUnread h.0 = λ row is. h.2 row is (row_with h.0 key (key_held ((state g old).now.trees 2) key h.0 held) row is) in
+      (h.0, held, unread, u, (same_shows (state g old) (state g new) it u).1)
   find_is_map key (Err WrongVersion) h it = absurd h
   find_is_map key (Err NoRow) h it = absurd h
   find_is_map key (Err (Store e)) (inl q) it =

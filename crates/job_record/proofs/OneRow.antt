@@ -1,5 +1,5 @@
 -- Columns read as one row, or as none.
-use Rattle.std.proofs.Common.{◌≡◌, ℕ, ℤ, pos, Bool, true, false, true≢false, not, List, Option, Some, None, Ok, Err, refl, sym, ap, subst, ◌∙◌, rules}
+use Rattle.std.proofs.Common.{◌≡◌, ◌≢◌, ℕ, ℤ, pos, Bool, true, false, true≢false, not, List, Option, Some, None, Ok, Err, refl, sym, ap, subst, ◌∙◌, rules}
 use Rattle.std.specs.Ordering.{int_eq}
 use Rattle.std.specs.Str.{is_utf8}
 use Rattle.std.proofs.lemmas.Str.{IsUtf8-from_is_utf8, is_utf8-from_IsUtf8}
@@ -76,6 +76,14 @@ one_row c a b p q =
     let flag' = q.1.archived in
     let archived : a.archived ≡ b.archived = p.2.archived ∙ flag.2 ∙ one_flag (column c 4) flag.0 flag'.0 flag.1 flag'.1 ∙ sym flag'.2 ∙ sym q.2.archived in
     λ i. record { key = key i; outputs = outputs i; files = files i; cost = cost i; archived = archived i }
+
+-- columns that begin with a key are no row of another one
+pub row_with : (c : Columns) (key : List ℕ) → column c 0 ≡ Text key → (row : Row) → IsRowOf c row → row.key ≡ key
+row_with c key begins row is = let s = is.0 in is.2.key ∙ (let e : Text s.key ≡ Text key = sym is.1.key.0 ∙ begins in cc)
+
+-- columns that read as a row with another key read as no row with this one
+pub no_other : (c : Columns) (key : List ℕ) (row : Row) → IsRowOf c row → row.key ≢ key → (other : Row) → IsRowOf c other → other.key ≢ key
+no_other c key row is differs other also same = differs (ap (λ (r : Row). r.key) (one_row c row other is also) ∙ same)
 
 -- what the columns read as is what the map has
 pub row_kept : (c : Columns) (kept : Option Kept) (row : Row) → AreKeptAs (Some c) kept → IsRowOf c row → kept ≡ Some (reads row)

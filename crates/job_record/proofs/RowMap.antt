@@ -36,6 +36,10 @@ found p rows = go (find p rows) refl
     go (Some x) is = inl (x, is)
     go None is = inr is
 
+after_rowid : (r : Row) → column (drop 1 r) 0 ≡ column r 1
+after_rowid [] = refl
+after_rowid (x ∷ r) = refl
+
 module _ (rows : List Row) (key : List ℕ) where
   pub held_row : AreKeysApart rows → (r : Row) → Has rows r → column r 1 ≡ Text key → held_in rows key ≡ Some (drop 1 r)
   held_row apart r there is = elim (found (is_keyed key) rows) [
@@ -59,6 +63,10 @@ module _ (rows : List Row) (key : List ℕ) where
         (some.0, x.0, text_is key _ x.1, let same : c ≡ drop 1 some.0 = cc in same)
     | inr none ↦ absurd (let e : None ≡ Some c = sym (ap (option_map (drop 1)) none) ∙ h in cc)
   ]
+
+  -- the columns of a key begin with it
+  pub key_held : (c : Row) → held_in rows key ≡ Some c → column c 0 ≡ Text key
+  key_held c h = let r = row_held c h in ap (λ (z : Row). column z 0) r.3 ∙ after_rowid r.0 ∙ r.2
 
   pub none_held : held_in rows key ≡ None → (r : Row) → Has rows r → column r 1 ≡ Text key → ⊥
   none_held h r there is = elim (found (is_keyed key) rows) [

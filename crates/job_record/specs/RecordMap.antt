@@ -38,11 +38,11 @@ module _ {S : Type 0} (g : Ghosts S) (old new : Held S) where
   abbrev pub QueriesKey : List ℕ → Result Columns Error → Type 0
   QueriesKey key = QueriesRow find_text (key_params key) (state g old) (state g new)
 
-  -- the row that the query shows, or none
+  -- the row that the query shows, which has the key, or none; R1 if what it shows reads as no row with the key
   abbrev pub Finds : List ℕ → Result (Option Row) RecordFault → Type 0
   Finds key (Ok None) = QueriesKey key (Err QueryReturnedNoRows)
-  Finds key (Ok (Some row)) = (c : Columns) × QueriesKey key (Ok c) × IsRowOf c row
-  Finds key (Err NotARecord) = (c : Columns) × QueriesKey key (Ok c) × IsUnread c
+  Finds key (Ok (Some row)) = (c : Columns) × QueriesKey key (Ok c) × IsRowOf c row × (row.key ≡ key)
+  Finds key (Err NotARecord) = (c : Columns) × QueriesKey key (Ok c) × ((row : Row) → IsRowOf c row → row.key ≢ key)
   Finds key (Err WrongVersion) = ⊥
   Finds key (Err NoRow) = ⊥
   Finds key (Err (Store e)) = ((e ≢ QueryReturnedNoRows) × QueriesKey key (Err e)) ⊎ (LacksMemory e × (c : Columns) × QueriesKey key (Ok c))

@@ -1,6 +1,6 @@
 //! The commands, from rows to the statements of their tables.
 
-ghost use Rattle.std.specs.Prelude.{◌≡◌, ◌+◌, ◌++◌, ◌≤◌, [], Any, IfOk, IfErr, OnOk};
+ghost use Rattle.std.specs.Prelude.{◌≡◌, ◌+◌, ◌++◌, ◌≤◌, [], Any, IfOk, IfSome, IfErr, OnOk};
 ghost use Rattle.std.specs.Vec.{vec_len, vec_capacity};
 ghost use Rattle.sqlite.specs.State.{HasCleanDisk, Survives, CommitsBy, CommitsShowing};
 ghost use Rattle.sqlite.specs.Held.{state};
@@ -49,7 +49,7 @@ pub fn note(
     }
 }
 
-/// The row of a key, if there is one.
+/// The row of a key, if there is one. A store that is damaged may show the row of another key, which is R1.
 pub fn look_up<S: Alter>(
     alloc: Global,
     conn: &mut Connection<S>,
@@ -57,6 +57,7 @@ pub fn look_up<S: Alter>(
 ) -> Result<Option<Row>, RecordFault>
     ensures finds { HasCleanDisk (state S.Store conn.new)
         → Finds S.Store conn.old conn.new key.now result }
+    ensures keyed { IfOk result (λ found. IfSome found (λ row. row.key ≡ key.now)) }
     ensures survives { Survives (state S.Store conn.old) (state S.Store conn.new)
         (CommitsShowing find_text (key_params key.now) (state S.Store conn.old)) }
     ensures open { HasCleanDisk (state S.Store conn.new)
@@ -64,7 +65,8 @@ pub fn look_up<S: Alter>(
 {
     match tables::find(conn, key) {
         Ok(Some(columns)) => match read_row(alloc, &columns) {
-            Ok(row) => Ok(Some(row)),
+            Ok(row) if row.key.as_str() == key => Ok(Some(row)),
+            Ok(_) => Err(RecordFault::NotARecord),
             Err(fault) => Err(fault),
         },
         Ok(None) => Ok(None),

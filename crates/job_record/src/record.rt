@@ -1,4 +1,4 @@
-ghost use Rattle.std.specs.Prelude.{◌≡◌, ◌≢◌, [], false, Ok, Err, IfOk, IfErr, OnOk};
+ghost use Rattle.std.specs.Prelude.{◌≡◌, ◌≢◌, [], false, Ok, Err, IfOk, IfSome, IfErr, OnOk};
 ghost use Rattle.sqlite.specs.State.{HasCleanDisk, KeepsCommit, Survives, CommitsBy, CommitsShowing};
 ghost use Rattle.sqlite.specs.Held.{state};
 ghost use Rattle.job_record.specs.Statements.{find_text, list_text, put_text, drop_archive_text, forget_text, key_params, put_params};
@@ -108,11 +108,12 @@ impl<S: Alter> JobRecord<S> {
     ///
     /// # Errors
     ///
-    /// R1 where the row does not read; R4; want of memory.
+    /// R1 if the row does not read, or has another key; R4; want of memory.
     #[tactic(auto, using(crate::proofs::MapSteps::find_is_map))]
     pub fn find(&mut self, key: &str) -> Result<Option<Row>, RecordFault>
         ensures finds { HasCleanDisk (state S.Store self.new.conn)
             → Finds S.Store self.old.conn self.new.conn key.now result }
+        ensures keyed { IfOk result (λ found. IfSome found (λ row. row.key ≡ key.now)) }
         ensures map { HasCleanDisk (state S.Store self.new.conn)
             → IsRecord (state S.Store self.old.conn)
             → FindsIn (state S.Store self.old.conn) (state S.Store self.new.conn) key.now result }

@@ -1,10 +1,18 @@
-use Rattle.std.proofs.Common.{sym, subst}
+use Rattle.std.proofs.Common.{◌≡◌, sym, subst}
+use Rattle.std.specs.Prelude.{IfOk, IfSome}
 use Rattle.sqlite.specs.Held.{state}
 use Rattle.job_rows.specs.Map.{Finds}
 use Rattle.job_record.specs.Rows.{HoldsRows}
-use Rattle.job_record.proofs.KeptRows.{finds_rows}
+use Rattle.job_record.proofs.KeptRows.{finds_rows, keyed_answered}
 use Rattle.job_record.proofs.Opens.{was_clean}
 use Rattle.job_record.proofs.rows.JobRecordRecord.find.Goals as goal
+
+pub returns-clause-keyed : goal.returns-clause-keyed
+returns-clause-keyed g c =
+    let asked = c.as_str.result.now in
+    let keyed = keyed_answered asked c.find.result c.find.ensures.keyed in
+    let told = subst (λ result. IfOk result (λ found. IfSome found (λ row. row.key ≡ asked))) (sym c.answered.ensures) keyed in
+    subst (λ key. IfOk c.answered.result (λ found. IfSome found (λ row. row.key ≡ key))) c.as_str.ensures.bytes told
 
 pub returns-clause-sound : goal.returns-clause-sound
 returns-clause-sound g c = was_clean _ _ _ c.find.ensures.survives
