@@ -1,5 +1,6 @@
 //! The calls of a host: each makes room for its entry, acts, and adds the entry.
 ghost use Rattle.std.specs.Prelude.{◌≡◌, ◌≤◌, ◌++◌, ◌∷◌, [], length, IfOk, OnOk, OnErr, IsTrue, Contains};
+ghost use Rattle.collected_outputs.specs.Listing.{are_paths};
 ghost use Rattle.proc_host.specs.Answers.{are_among};
 ghost use Rattle.proc_host.specs.Log.{answer_behind, entries_of, FailsOnlyBy};
 
@@ -157,6 +158,7 @@ pub(crate) fn scan<R: World>(
         ++ entries_of (HostRequest.Scan folder.now)
         (answer_behind (λ found. HostAnswer.Listed found) result) }
     ensures own { FailsOnlyBy HostFault.Scan result }
+    ensures paths { IfOk result (λ found. IsTrue (are_paths found)) }
 {
     make_room(log)?;
     let request = HostRequest::Scan(folder.copied(rt.alloc())?);
@@ -282,7 +284,8 @@ fn listed_twice<R: World>(
     folder: &Text,
     unlisted: &mut Option<Unlisted>,
 ) -> Result<(Items<Found>, Items<Found>), Trouble>
-    ensures { IfOk result (λ pair. pair.0 ≡ pair.1) }
+    ensures same { IfOk result (λ pair. pair.0 ≡ pair.1) }
+    ensures paths { IfOk result (λ pair. IsTrue (are_paths pair.0)) }
 {
     let listed = listed_or_why(rt, folder, unlisted)?;
     let noted = listing_in(rt.alloc(), &listed)?;
@@ -298,7 +301,9 @@ fn listed_or_why<R: World>(
     rt: &R,
     folder: &Text,
     unlisted: &mut Option<Unlisted>,
-) -> Result<Items<Found>, Trouble> {
+) -> Result<Items<Found>, Trouble>
+    ensures { IfOk result (λ found. IsTrue (are_paths found)) }
+{
     let (outcome, met) = match listing_of(rt, folder.as_str(), Others::LeftOut) {
         Ok(found) => (Ok(found), None),
         Err(NoListing::Met(met)) => (Err(Trouble::Failed), Some(met)),

@@ -1,12 +1,14 @@
 //! Listings of folders.
-ghost use Rattle.std.specs.Prelude.{IfErr};
+ghost use Rattle.std.specs.Prelude.{IfErr, IfOk, IsTrue};
+ghost use Rattle.collected_outputs.specs.Listing.{are_paths, is_path as is_below};
 ghost use Rattle.process_machine.specs.Listing.{IsOn};
 
 use crate::layout::joined;
 use crate::tree::{Below, Others, tree_below};
 use crate::trouble::Trouble;
-use crate::unlisted::NoListing;
+use crate::unlisted::{NoListing, Obstacle};
 use crate::world::World;
+use collected_outputs::is_path;
 use file_values::{FileSum, Watched, sum_of};
 use plain_data::{Items, Text};
 use staging::Found;
@@ -17,14 +19,18 @@ pub(crate) fn listing_of<R: World>(
     rt: &R,
     folder: &str,
     others: Others,
-) -> Result<Items<Found>, NoListing> {
+) -> Result<Items<Found>, NoListing>
+    ensures { IfOk result (λ found. IsTrue (are_paths found)) }
+{
     let tree = tree_below(rt, folder, others)?;
     let found = found_in(rt, folder, tree.as_slice());
     mem::drop(tree);
     found
 }
 
-fn found_in<R: World>(rt: &R, folder: &str, tree: &[Below]) -> Result<Items<Found>, NoListing> {
+fn found_in<R: World>(rt: &R, folder: &str, tree: &[Below]) -> Result<Items<Found>, NoListing>
+    ensures { IfOk result (λ found. IsTrue (are_paths found)) }
+{
     let mut found = Items::new(rt.alloc());
     for below in tree {
         found.push(found_at(rt, folder, below)?)?;
@@ -32,7 +38,13 @@ fn found_in<R: World>(rt: &R, folder: &str, tree: &[Below]) -> Result<Items<Foun
     Ok(found)
 }
 
-fn found_at<R: World>(rt: &R, folder: &str, below: &Below) -> Result<Found, NoListing> {
+// What is below the folder, if its name is a path there. The names of entries are names on every system, but no contract says so.
+fn found_at<R: World>(rt: &R, folder: &str, below: &Below) -> Result<Found, NoListing>
+    ensures { IfOk result (λ found. IsTrue (is_below found.name)) }
+{
+    if !is_path(below.name.as_str()) {
+        return Err(NoListing::at(rt.alloc(), folder, Obstacle::Other));
+    }
     let FileSum { sum, size } = sum_below(rt, folder, below)?;
     Ok(Found {
         name: below.name.copied(rt.alloc())?,
