@@ -72,5 +72,5 @@ pub data IsEndOfPlan (words : RunWish) (dot : Bool) (path : Text) : Exit → Typ
   plans : {exit : Exit} (here : Text) (given : Given) (options : Options) → IsReady here words given → IsAsked here words path options →
       IsPlanned given.process given.inputs options dot exit → IsEndOfPlan words dot path exit
   stops : {exit : Exit} (here : Text) → IsUnready here words exit → IsEndOfPlan words dot path exit
-  -- the folder that the program is called in can't be told
+  -- the name of the current folder can't be found
   lost : IsEndOfPlan words dot path (exits.Fault faults.Folder)

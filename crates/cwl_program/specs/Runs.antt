@@ -131,7 +131,7 @@ pub data IsRunExit (words : RunWish) (path : Text) : (lines : List Line) → Exi
       IsAsked here words path options → IsRanOver given.process given.inputs options lines exit →
       IsRunExit words path lines exit (left_of words exit (from_root here words.work))
   stops : {exit : Exit} (here : Text) → IsStopExit here words exit → IsRunExit words path [] exit None
-  -- the folder that the program is called in can't be told
+  -- the name of the current folder can't be found
   lost : IsRunExit words path [] (exits.Fault faults.Folder) None
 
 -- with some lines of the record

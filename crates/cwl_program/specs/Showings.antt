@@ -118,5 +118,5 @@ pub data IsEndOfShowing (words : RunWish) (path : Text) : Exit → Type 0 where
   no_process : {exit : Exit} (here : Text) → IsNoProcess here words exit → IsEndOfShowing words path exit
   no_inputs : {exit : Exit} (here : Text) (process : Process) → IsNamedProcess here words process → IsNoInputs here words exit →
       IsEndOfShowing words path exit
-  -- the folder that the program is called in can't be told
+  -- the name of the current folder can't be found
   lost : IsEndOfShowing words path (exits.Fault faults.Folder)

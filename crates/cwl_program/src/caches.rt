@@ -38,14 +38,14 @@ fn is_named(name: Option<&str>) -> bool
     }
 }
 
-/// The file of the record that a run asks, where it has one in a file.
+/// The file of the record that a run asks, if it has one in a file.
 pub fn record_of(alloc: Global, words: &RunWords) -> Result<Option<Text>, AllocError>
     ensures { IfOk result (λ file. file ≡ spec.record_of (wish_of_run words.now)) }
 {
     kept_in(alloc, words.cache, RECORD, words.record_file)
 }
 
-/// The folder that keeps the files of jobs, where one does.
+/// The folder that keeps the files of jobs, if one does.
 pub fn archive_of(alloc: Global, words: &RunWords) -> Result<Option<Text>, AllocError>
     ensures { IfOk result (λ folder. folder ≡ spec.archive_of (wish_of_run words.now)) }
 {
@@ -93,7 +93,7 @@ pub fn within(alloc: Global, folder: &str, name: &str) -> Result<Text, AllocErro
     Ok(Text::from_string(format!(in alloc; "{folder}/{name}")?))
 }
 
-/// Makes the folder of a cache, where that can be done. Where it can't its record is not opened either, which says why.
+/// Makes the folder of a cache, if that can be done. If it can't its record is not opened either, which says why.
 pub fn make_cache<R: World>(rt: &R, words: &RunWords) {
     if let Some(folder) = words.cache {
         let _made = fs::create_dir_all(rt, folder);

@@ -13,7 +13,7 @@ use std::mem;
 use url::Url;
 use workflow_check::{AcceptError, accept};
 
-/// The process of a document at a URL, with those that its steps name, where its links are right. Of those that are lacking `missed` says
+/// The process of a document at a URL, with those that its steps name, if its links are right. Of those that are lacking `missed` says
 /// why, under their paths.
 pub fn accepted_of(
     alloc: Global,

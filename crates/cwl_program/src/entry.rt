@@ -33,8 +33,8 @@ use std::{env, fs, io, mem};
 /// The status of a fault, and of a command line that is refused.
 const FAULT: u8 = 3;
 
-/// Runs the program on its arguments, `PATH` (empty where it is absent), standard output and standard error. Where standard error is
-/// a terminal it adds `--explain`, and for a run `--progress`; on one whose `TERM` is `dumb`, and where `DEPAROHI_EXPLAIN` is 1,
+/// Runs the program on its arguments, `PATH` (empty if it is absent), standard output and standard error. If standard error is
+/// a terminal it adds `--explain`, and for a run `--progress`; on one whose `TERM` is `dumb`, and if `DEPAROHI_EXPLAIN` is 1,
 /// `--explain` alone.
 ///
 /// A word that is no UTF-8 ends with status 3.
@@ -52,7 +52,7 @@ pub fn program(rt: HostRuntime) -> ExitCode {
     ExitCode::from(status)
 }
 
-// The words and `PATH`, which is empty where it is absent or no UTF-8.
+// The words and `PATH`, which is empty if it is absent or no UTF-8.
 fn given_to(rt: &HostRuntime) -> io::Result<(Vec<String>, String)> {
     let words = words(rt)?;
     match env::var(rt, "PATH") {
@@ -98,7 +98,7 @@ fn is_set(rt: &HostRuntime, name: &str, value: &str) -> bool {
 ///
 /// Returns the exit status: 0 success, 1 a permanent failure or a broken certificate, 2 a temporary failure, 33 a refused
 /// document, input or certificate, 3 any other fault. A write that fails ends with 3, and so do words of `--explain` for which
-/// there is no memory. With `run --verbose` or `--progress` the errors also take what is told of the jobs while the run goes on.
+/// there is no memory. With `run --verbose` or `--progress` the errors also take what is said of the jobs while the run goes on.
 pub fn main_run<R: World + Env + Input + Records, O: Write, E: Write>(
     rt: &R,
     words: &[String],
@@ -126,7 +126,7 @@ where
 struct End {
     run: RunEnd,
     explains: bool,
-    // how its jobs were told of
+    // what was said of its jobs
     telling: Telling,
 }
 
@@ -144,7 +144,7 @@ fn say<O: Write, E: Write>(alloc: Global, end: &End, out: &mut O, err: &mut E) -
     }
 }
 
-// Says that standard output did not take what goes there, where that is to be explained.
+// Says that standard output did not take what goes there, if that is to be explained.
 fn tell_unwritten<E: Write>(end: &End, error: &io::Error, err: &mut E) {
     let is_of_memory = matches!(error.kind(), io::ErrorKind::OutOfMemory);
     if end.explains && !is_of_memory && is_for_output(&end.run.exit) {
@@ -178,7 +178,7 @@ fn tell<O: Write, E: Write>(alloc: Global, end: &End, out: &mut O, err: &mut E) 
     Ok(())
 }
 
-/// Returns the end that the words lead to, or `clap`'s error. The jobs of a run are told of on the errors where the words want it.
+/// Returns the end that the words lead to, or `clap`'s error. What becomes of the jobs of a run is said on the errors if the words want it.
 #[tactic(auto, using(crate::specs::Tells::unread))]
 fn end_of<R: World + Env + Input + Records, E: Write>(
     rt: &R,
@@ -252,7 +252,7 @@ where
     }
 }
 
-// An end of which nothing else is told.
+// An end of which nothing else is said.
 fn bare(alloc: Global, exit: Result<Exit, AllocError>) -> Result<RunEnd, AllocError>
     ensures exit { IfOk result (λ end. exit ≡ Ok end.exit) }
     ensures left { IfOk result (λ end. end.left ≡ None) }
@@ -291,7 +291,7 @@ fn asks_why(choice: &Choice) -> bool
     }
 }
 
-/// How the choice wants the jobs of a run to be told of.
+/// What the choice wants to be said of the jobs of a run.
 fn telling_of(choice: &Choice) -> Telling
     ensures { result ≡ telling_of choice.now }
 {

@@ -20,7 +20,7 @@ use std::fs;
 use std::io::Write;
 use std::process::Stdio;
 
-/// Makes the work folder, runs over a record of which nothing was asked, and removes the folder where that is possible, unless it is to stay.
+/// Makes the work folder, runs over a record of which nothing was asked, and removes the folder if that is possible, unless it is to stay.
 pub fn on_disk<R: World, K: Record, E: Write>(
     rt: &R,
     given: &Given,
@@ -49,7 +49,7 @@ where
     }
 }
 
-/// Runs where the output folder can be used. One that was made, and into which nothing was delivered, is removed again.
+/// Runs if the output folder can be used. One that was made, and into which nothing was delivered, is removed again.
 fn in_work<R: World, K: Record, E: Write>(
     rt: &R,
     given: &Given,

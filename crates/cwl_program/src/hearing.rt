@@ -1,4 +1,4 @@
-//! What the commands of a run write to standard error, told between the lines on its jobs.
+//! What the commands of a run write to standard error, shown between the lines on its jobs.
 
 use command_line::Launch;
 use plain_data::Text;
@@ -16,7 +16,7 @@ struct Running {
     place: Text,
 }
 
-/// Tells of jobs, and of each line that their commands write. What there is no room for is left out.
+/// Says what becomes of jobs, and shows each line that their commands write. What there is no room for is left out.
 #[derive(Drop)]
 pub struct Voice<'a, E: Write> {
     alloc: Global,

@@ -18,13 +18,13 @@ use workflow_engine::Watch;
 pub struct Memory<'a> {
     /// The document's name.
     pub document: &'a str,
-    /// The name of the input object's file, where it can be read again.
+    /// The name of the input object's file, if it can be read again.
     pub inputs: Option<&'a str>,
     /// Whether a record or an archive is named, so that a job could be loaded.
     pub remembers: bool,
     /// Whether an archive is kept.
     pub keeps: bool,
-    /// Whether a line is to tell what became of the jobs.
+    /// Whether a line is to say what became of the jobs.
     pub counts: bool,
 }
 
@@ -36,12 +36,12 @@ struct Running {
     since: u64,
 }
 
-/// What a run left that tells of its jobs, whose places are JSON text.
+/// What a run left that speaks of its jobs, whose places are JSON text.
 #[derive(Drop)]
 pub struct Traces<'a> {
-    /// The name of the document, where its hints are to be told of.
+    /// The name of the document, if its hints are to be named.
     pub document: Option<&'a str>,
-    /// The name of the input object's file, where its keys are to be told of.
+    /// The name of the input object's file, if its keys are to be named.
     pub inputs: Option<&'a str>,
     // the last child of each job
     tickets: Keyed<u64>,
@@ -70,14 +70,14 @@ impl<'a> Traces<'a> {
     }
 }
 
-/// Keeps what becomes of each job, under its place as JSON text, and tells a listener. What there is no room for is left out.
+/// Keeps what becomes of each job, under its place as JSON text, and hands it to a listener. What there is no room for is left out.
 #[derive(Drop)]
 pub struct Jobs<'a, R: AllocGlobal + Clock, L: Listen> {
     rt: &'a R,
     alloc: Global,
     listener: &'a mut L,
     memory: Memory<'a>,
-    // when the run began, where the clock can be read
+    // when the run began, if the clock can be read
     start: Option<Instant>,
     // how many jobs were known at the last question
     known: usize,
@@ -125,12 +125,12 @@ impl<'a, R: AllocGlobal + Clock, L: Listen> Jobs<'a, R, L> {
         }
     }
 
-    /// What can be told of jobs by their places.
+    /// What is known of jobs by their places.
     pub fn traces(&self) -> &Traces<'a> {
         &self.traces
     }
 
-    /// Takes note that the run has succeeded: jobs of which it needed nothing are told of, and what computing them took was saved.
+    /// Takes note that the run has succeeded: jobs of which it needed nothing are named, and what computing them took was saved.
     pub fn succeed(&mut self) {
         let settled = self.settle();
         self.note(settled);
@@ -142,7 +142,7 @@ impl<'a, R: AllocGlobal + Clock, L: Listen> Jobs<'a, R, L> {
         }
     }
 
-    /// What became of the jobs of a run that has just ended, where a line is to tell it.
+    /// What became of the jobs of a run that has just ended, if a line is to say it.
     pub fn savings(&self) -> Option<Savings> {
         if !self.memory.counts || !self.is_whole {
             return None;

@@ -1,4 +1,4 @@
-//! What is told of the job or the input that failed, and of the result that could not be delivered.
+//! What is said of the job or the input that failed, and of the result that could not be delivered.
 
 use crate::jobs::Traces;
 use collected_outputs::OutputFault;
@@ -20,10 +20,10 @@ use std::alloc::{AllocError, Global};
 /// The place of the process itself, as JSON text.
 const ROOT: &str = "\"main\"";
 
-/// Returns lines on what failed. Of a job they have its command, how it ended, the last that it said, and where an output is lacking its
+/// Returns lines on what failed. Of a job they have its command, how it ended, the last that it said, and if an output is lacking its
 /// pattern and what is there; of an input of the process its value or file; of a reference the text that it stands in; of a call of the host
 /// the place of the job, and where a program was looked for or what is in a folder that can't be listed; of a delivery the result that is
-/// lacking, why, and where it lies. Of a run they also say what it has ignored. Where memory runs out there are none.
+/// lacking, why, and where it lies. Of a run they also say what it has ignored. If memory runs out there are none.
 pub fn notes_on<R: World>(
     rt: &R,
     host: &Machine<R>,
@@ -106,7 +106,7 @@ fn call_lines<R: World>(
     Ok(lines)
 }
 
-// Adds the place of a job, where that is not the process itself.
+// Adds the place of a job, if that is not the process itself.
 fn add_place(
     alloc: Global,
     place: Option<&Text>,

@@ -84,7 +84,7 @@ fn machine_at<R: World>(rt: R, places: Places, keep: bool) -> Machine<R>
     host
 }
 
-/// Runs, and tells of the jobs as they start and end. Where each has lines, what the children write to standard error is told too.
+/// Runs, and says when the jobs start and end. If each has lines, what the children write to standard error is shown too.
 fn told_of<R: World, K: Record, E: Write>(
     rt: &R,
     mut host: Machine<R>,
@@ -146,7 +146,7 @@ where
     end
 }
 
-// What became of the jobs, where that is not told among the words at the end of the program.
+// What became of the jobs, if that is not said among the words at the end of the program.
 fn counted_in<'a>(words: &RunWords, end: &'a Result<RunEnd, AllocError>) -> Option<&'a Savings> {
     match end {
         Ok(end) if !words.explain => end.savings.as_ref(),
@@ -154,7 +154,7 @@ fn counted_in<'a>(words: &RunWords, end: &'a Result<RunEnd, AllocError>) -> Opti
     }
 }
 
-// The lines on the jobs and those of their commands are told in one voice.
+// The lines on the jobs and those of their commands are written by one writer.
 fn told_aloud<R: World, K: Record, E: Write>(
     rt: &R,
     host: Machine<R>,
@@ -218,7 +218,7 @@ where
     end
 }
 
-/// What became of the jobs of a run, where it succeeded.
+/// What became of the jobs of a run, if it succeeded.
 fn savings_of<R: AllocGlobal + Clock, L: Listen>(
     exit: &Result<Exit, AllocError>,
     jobs: &mut Jobs<'_, R, L>,
@@ -232,7 +232,7 @@ fn savings_of<R: AllocGlobal + Clock, L: Listen>(
     }
 }
 
-/// Adds what is told of a failure, and of a success.
+/// Adds what is said of a failure, and of a success.
 pub fn noted<R: World>(
     rt: &R,
     host: &Machine<R>,

@@ -46,7 +46,7 @@ fn hindrance_of(kind: io::ErrorKind) -> Hindrance {
     }
 }
 
-/// Looks at the output folder where an output of the process can be or hold a File or Directory: makes it where it is absent, and else sees
+/// Looks at the output folder if an output of the process can be or hold a File or Directory: makes it if it is absent, and else sees
 /// that it can be written to. Returns whether it was made.
 pub fn outdir_for<R: World>(rt: &R, process: &Process, outdir: &Text) -> Result<bool, NoOutdir>
     ensures { OnErr result (can_hold_files process.now ≡ true) }

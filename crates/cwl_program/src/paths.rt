@@ -11,7 +11,7 @@ use plain_data::Text;
 use std::alloc::{AllocError, Global};
 use url::Url;
 
-/// A name as a path from the root: joined to the folder `here` where it does not begin with `/`, without empty
+/// A name as a path from the root: joined to the folder `here` if it does not begin with `/`, without empty
 /// components and components `.`.
 pub fn from_root(alloc: Global, here: &str, name: &str) -> Result<Text, AllocError>
     ensures { IfOk result (λ path. path ≡ spec.from_root here.now name.now) }

@@ -18,7 +18,7 @@ use std::alloc::{AllocError, Global};
 use std::mem;
 use workflow_engine::{PlanFault, Planned};
 
-/// Says how a plan of a process ends the program, over whose host this is the log, where the record gave these answers.
+/// Says how a plan of a process ends the program, over whose host this is the log; the record gave these answers.
 pub fn exit_of_plan(
     alloc: Global,
     log: &[Entry],
@@ -154,7 +154,7 @@ fn known_of(
     Ok(known)
 }
 
-// What is known of the job at a place, where so many answers were for jobs before it, and for how many they were with it.
+// What is known of the job at a place, if so many answers were for jobs before it, and for how many they were with it.
 fn known_at(
     process: &Process,
     place: &JobPlace,

@@ -32,7 +32,7 @@ use std::rt::Env;
 use std::{env, io, mem};
 use url::Url;
 
-/// The input object where no file is given.
+/// The input object if no file is given.
 const NO_INPUTS: &[u8] = b"{}";
 
 /// Runs the process of a document on an input object, in a work folder that is made for it and removed again, and with the record that
@@ -70,7 +70,7 @@ pub fn here_of<R: World + Env>(rt: &R) -> io::Result<String> {
     Ok(String::from_str(rt.alloc(), here.as_path().as_str())?)
 }
 
-/// The end of a program that can't tell the folder that it is called in.
+/// The end of a program that can't find the name of the current folder.
 pub fn without_folder(alloc: Global, error: &io::Error) -> Result<RunEnd, AllocError>
     ensures exit { IfOk result (λ end. end.exit ≡ Exit.Fault Fault.Folder) }
     ensures left { IfOk result (λ end. end.left ≡ None) }
@@ -246,7 +246,7 @@ where
     end
 }
 
-/// The folders as paths from the root, that of the archive too where one is named.
+/// The folders as paths from the root, that of the archive too if one is named.
 pub fn places_of(alloc: Global, call: &Call<'_>) -> Result<Places, AllocError>
     ensures { IfOk result (AreNamed call.now.here.now (wish_of_run call.now.words.now)) }
 {

@@ -1,4 +1,4 @@
-//! Texts that are taken from standard input where `-` stands for it.
+//! Texts that are taken from standard input if `-` stands for it.
 ghost use Rattle.std.specs.Prelude.{◌≤◌, length, IfOk, IfErr};
 ghost use Rattle.end_words.specs.Stops.{IsTrouble, most_bytes};
 
@@ -19,7 +19,7 @@ pub fn bytes_of<R: AllocGlobal + Files + Input>(rt: &R, name: &str) -> Result<Ve
     bytes_of_file(rt, name)
 }
 
-/// The file of the inputs, where they are of one: it can be read again, and standard input can't.
+/// The file of the inputs, if they are of one: it can be read again, and standard input can't.
 pub fn file_of<'a>(inputs: Option<&'a str>) -> Option<&'a str> {
     match inputs {
         Some(name) if name == INPUT => None,

@@ -16,7 +16,7 @@ use run_core::Cause;
 use std::alloc::{AllocError, Global};
 use std::mem;
 
-/// Ends the program with the command of a tool in one line, its files where they are given.
+/// Ends the program with the command of a tool in one line, its files if they are given.
 pub fn exit_of_command(
     alloc: Global,
     tool: &Tool,

@@ -10,7 +10,7 @@ const STATUS: &str = "/proc/self/status";
 
 const ONLINE: &str = "/sys/devices/system/cpu/online";
 
-/// Says on the errors, where words are to be explained, what does here what the options of another runner do.
+/// Says on the errors, if words are to be explained, what does here what the options of another runner do.
 pub fn answer_words<E: Write>(words: &[String], err: &mut E) {
     if !words.iter().any(|word| word.as_str() == "--explain") {
         return;
@@ -27,7 +27,7 @@ fn answer_word<E: Write>(word: &str, err: &mut E) {
     }
 }
 
-/// How many jobs may run side by side on this machine: 1 where it can't be told.
+/// How many jobs may run side by side on this machine: 1 if it can't be found.
 pub fn processors_of<R: AllocGlobal + Files>(rt: &R) -> u64 {
     match fs::read_to_string(rt, STATUS) {
         Ok(status) => {

@@ -1,4 +1,4 @@
-//! The mark of a work folder, and what it tells where the folder is in the way.
+//! The mark of a work folder, and what it says if the folder is in the way.
 ghost use Rattle.std.specs.Prelude.{◌≡◌, None, IfOk};
 
 use end_words::{Exit, Fault, RunEnd, bytes_of_file};
@@ -12,14 +12,14 @@ use std::{fs, io, str};
 /// The file in a work folder that says which process made it.
 const MARK: &str = "made-by";
 
-/// Marks a work folder as made by this process, where that can be done.
+/// Marks a work folder as made by this process, if that can be done.
 pub fn mark_made<R: World>(rt: &R, work: &Text) {
     if let Some(mark) = own_mark(rt) {
         put_mark(rt, work, mark.as_str());
     }
 }
 
-// Marks a work folder as left on purpose, where that can be done.
+// Marks a work folder as left on purpose, if that can be done.
 fn mark_kept<R: World>(rt: &R, work: &Text) {
     put_mark(rt, work, KEPT);
 }
@@ -37,7 +37,7 @@ fn mark_path<R: World>(rt: &R, work: &Text) -> Result<String, AllocError> {
     format!(in rt.alloc(); "{work}/{MARK}")
 }
 
-/// Marks the work folder where it stays, and removes it where not. Where memory ran out at the end it stays if that was asked for.
+/// Marks the work folder if it stays, and removes it if not. If memory ran out at the end it stays if that was asked for.
 pub fn leave<R: World>(rt: &R, work: &Text, words: &RunWords, end: &Result<RunEnd, AllocError>) {
     let stays = match end {
         Ok(end) => end.left.is_some(),
@@ -102,14 +102,14 @@ fn mark_in<R: World>(rt: &R, work: &Text) -> Option<String> {
     text_at(rt, path.as_str())
 }
 
-// What is told of the process that a mark names.
+// What is said of the process that a mark names.
 fn stat_for<R: World>(rt: &R, mark: &str) -> Option<String> {
     let number = number_in(mark)?;
     let path = format!(in rt.alloc(); "/proc/{number}/stat").ok()?;
     text_at(rt, path.as_str())
 }
 
-// The mark of this process, where the system tells what it has.
+// The mark of this process, if the system says what it has.
 fn own_mark<R: World>(rt: &R) -> Option<String> {
     let stat = text_at(rt, "/proc/self/stat")?;
     let boot = text_at(rt, "/proc/sys/kernel/random/boot_id")?;

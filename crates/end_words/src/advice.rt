@@ -1,4 +1,4 @@
-//! What would do where a document or an input object is refused.
+//! What would do when a document or an input object is refused.
 
 use crate::exit::{Exit, Refusal};
 use crate::near_names::near_lines;
@@ -20,7 +20,7 @@ const NOT_MET: &str =
 const LITERAL: &str =
     "a File or Directory is given by its `location` or `path`; one of `contents` or `listing` alone is not taken";
 
-/// Returns lines on a refusal: where a text is no JSON and what it looks like, and what would do. The inputs have this name. Where memory
+/// Returns lines on a refusal: where a text stops being JSON and what it looks like, and what would do. The inputs have this name. If memory
 /// runs out there are none.
 pub fn advice_on<R: World>(rt: &R, exit: &Exit, inputs: Option<&str>) -> Vec<String> {
     match lines_on(rt, exit, inputs) {

@@ -79,7 +79,7 @@ pub enum Fault {
     Unopened(Text, RecordFault),
     /// The words name a cache beside a record or an archive.
     Words,
-    /// The folder that the program is called in can't be told.
+    /// The name of the current folder can't be found.
     Folder,
     /// The file of this name can't be read, and why.
     Unread(Text, Unreadable),

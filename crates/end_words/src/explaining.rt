@@ -24,7 +24,7 @@ use std::io::Write;
 /// The place of the process itself, as JSON text.
 const ROOT: &str = "\"main\"";
 
-/// Writes a line that says what went wrong and where, or why a plan is as it is; nothing of another end in which nothing went wrong. Where
+/// Writes a line that says what went wrong and where, or why a plan is as it is; nothing of another end in which nothing went wrong. If
 /// the first of the notes says all of it (`is_led`), it is that line.
 pub fn explain_exit<E: Write>(
     alloc: Global,
@@ -62,7 +62,7 @@ fn put_reasons<E: Write>(texts: &PlanTexts, err: &mut E) -> io::Result<()>
     write!(err, "{reasons}")
 }
 
-// Writes a line that says why a record can't be shown; nothing where it is.
+// Writes a line that says why a record can't be shown; nothing if it is.
 fn explain_ending<E: Write>(alloc: Global, ending: &Ending, err: &mut E) -> io::Result<()>
     ensures { OnOk result (IsEndingExplained ending.now (E.contents err.old) (E.contents err.new)) }
 {
@@ -120,7 +120,7 @@ fn put_lines<E: Write>(alloc: Global, lines: &[String], err: &mut E) -> io::Resu
     Ok(())
 }
 
-/// Writes what became of the jobs of a run that succeeded, where it tells of them.
+/// Writes what became of the jobs of a run that succeeded, if it speaks of them.
 pub fn put_savings<E: Write>(
     alloc: Global,
     exit: &Exit,
@@ -290,7 +290,7 @@ fn misfit_words(alloc: Global, input: &Text, note: Option<&String>) -> Result<St
     }
 }
 
-// What a reference may begin with, where it begins with another name.
+// What a reference may begin with, if it begins with another name.
 fn known_names(fault: RefFault) -> &'static str {
     match fault {
         RefFault::NoName =>
@@ -299,7 +299,7 @@ fn known_names(fault: RefFault) -> &'static str {
     }
 }
 
-// What a reference of a step may begin with, where it begins with another name.
+// What a reference of a step may begin with, if it begins with another name.
 fn names_of_steps(fault: RefFault) -> &'static str {
     match fault {
         RefFault::NoName => "; only `inputs` and `self` are known there",
@@ -307,7 +307,7 @@ fn names_of_steps(fault: RefFault) -> &'static str {
     }
 }
 
-// Of the inputs of a step the place is told.
+// Of the inputs of a step the place is named.
 fn equation_words(alloc: Global, place: &Text, cause: &NoValue) -> Result<String, AllocError> {
     match cause {
         NoValue::Missing(input) => {
@@ -371,10 +371,7 @@ fn fault_words(alloc: Global, fault: &Fault) -> Result<String, AllocError> {
             )
         }
         Fault::Folder => {
-            String::from_str(
-                alloc,
-                "the folder that the program is called in can't be told",
-            )
+            String::from_str(alloc, "the name of the current folder can't be found")
         }
         Fault::Unread(name, why) => unread_words(alloc, name, *why),
         Fault::NoObject => String::from_str(alloc, "the value of the input file is no object"),
@@ -449,7 +446,8 @@ fn remover_of(alloc: Global, path: &Text) -> Result<String, AllocError> {
 pub fn hindrance_words(why: Hindrance) -> &'static str {
     match why {
         Hindrance::Given => "a file that the run was given is there",
-        Hindrance::Taken => "a file is where a folder is needed, or a folder where a file is",
+        Hindrance::Taken =>
+            "a file is in the place of a folder, or a folder in the place of a file",
         Hindrance::Forbidden => "it is not allowed",
         Hindrance::Full => "there is no room",
         Hindrance::Other => "the system refuses it",

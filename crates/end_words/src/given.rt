@@ -26,7 +26,7 @@ pub struct Given {
 pub struct Places {
     pub work: Text,
     pub outdir: Text,
-    /// The archive's folder, where one is kept.
+    /// The archive's folder, if one is kept.
     pub archive: Option<Text>,
 }
 

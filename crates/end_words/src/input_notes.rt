@@ -1,4 +1,4 @@
-//! What is told of an input of the process itself that does not fit, or whose file, or a file beside that, is not there.
+//! What is said of an input of the process itself that does not fit, or whose file, or a file beside that, is not there.
 
 use crate::advice::line;
 use crate::given::Given;

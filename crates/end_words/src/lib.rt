@@ -2,10 +2,10 @@
 //!
 //! - `Exit` is an end: its status, and its line on the output or the errors (`specs/Told.antt`).
 //! - `exit_of_run` says how the report of a run ends the program, with what the host's failed call was about.
-//! - `explain_exit`, `put_notes`, `put_savings` and `put_left` write what follows that line where it is to be explained; each line is shown
+//! - `explain_exit`, `put_notes`, `put_savings` and `put_left` write what follows that line if the end is to be explained; each line is shown
 //!   without what a terminal would hide. Which words those are is in no contract.
 //! - `bytes_of_file` reads 64 MiB at most, or says why not; `Stop` is why there is nothing to run.
-//! - `RunEnd::leaving` says where the work folder stays.
+//! - `RunEnd::leaving` says whether the work folder stays.
 //! - The rest are lines on what failed: of a text that is no JSON, a field, a reference, an input, an output, a start.
 #![tactic(auto)]
 

@@ -1,4 +1,4 @@
-//! The field that is meant where one is not known.
+//! The field that is meant when one is not known.
 
 use crate::advice::line;
 use crate::wrong_form::value_at;
@@ -139,7 +139,7 @@ fn allowed_for(name: &str) -> usize {
 
 // ---- objects
 
-// The fields of the object at a place whose steps are given, the last one first; none where it is not known.
+// The fields of the object at a place whose steps are given, the last one first; none if it is not known.
 fn fields_at(document: &Value, object: &[Way]) -> &'static str {
     match object {
         [] => fields_of_root(document),

@@ -1,14 +1,14 @@
-//! What is told of references that have no value.
+//! What is said of references that have no value.
 
 use param_refs::{Part, Reference, Segment, Template};
 use plain_data::Text;
 use run_facts::{Known, Reach, keys_words, known_words, reach_of};
 use std::alloc::{AllocError, Global};
 
-/// How many names are told.
+/// How many names are shown.
 const MOST_NAMES: usize = 10;
 
-/// How many references are told that may have a value, and may have none.
+/// How many references are shown that may have a value, and may have none.
 const MOST_DOUBTED: usize = 5;
 
 /// What texts may speak of: inputs, by their names, and `runtime`.
@@ -18,7 +18,7 @@ pub struct Scope<'a> {
     pub runtime: Runtime,
 }
 
-/// What texts find under `runtime`. Where it has folders, they see the paths of files too.
+/// What texts find under `runtime`. If it has folders, they see the paths of files too.
 #[derive(Clone, Copy, Debug, Drop, PartialEq, Eq)]
 pub enum Runtime {
     /// There is none.
@@ -40,7 +40,7 @@ impl Scope<'_> {
     }
 }
 
-/// Adds a line on the first reference of these texts that has no value, as far as types tell; where there is none, on the first that
+/// Adds a line on the first reference of these texts that has no value, as far as types show; if there is none, on the first that
 /// need not have one.
 pub fn add_references(
     alloc: Global,
@@ -238,7 +238,7 @@ fn lacking(
     Ok(words)
 }
 
-// `NAME is TYPE, and `, or `NAME ` where nothing is known.
+// `NAME is TYPE, and `, or `NAME ` if nothing is known.
 fn described(alloc: Global, name: &str, known: Known<'_>) -> Result<String, AllocError> {
     match known_words(alloc, known)? {
         Some(kind) => format!(in alloc; "`{name}` is {kind}, and "),

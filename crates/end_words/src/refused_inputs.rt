@@ -1,4 +1,4 @@
-//! What is told of an input object that is refused.
+//! What is said of an input object that is refused.
 
 use cwl_value::ValueRefusal;
 use serde_json::{Map, Value};
@@ -105,7 +105,7 @@ fn number_in_members(
     Ok(None)
 }
 
-// The number itself, where it is refused so.
+// The number itself, if it is refused so.
 fn bad_number(
     alloc: Global,
     refusal: ValueRefusal,

@@ -14,7 +14,7 @@ use std::{mem, str};
 /// The most documents that are looked at.
 const MOST_DOCUMENTS: usize = 64;
 
-/// How many names of the input object are told.
+/// How many names of the input object are shown.
 const MOST_NAMES: usize = 10;
 
 /// Hints of the standard that are ignored, though they change what a tool does, each with what is so without it.
@@ -155,7 +155,7 @@ fn is_input(process: &Process, name: &Text) -> bool {
 
 // ---- documents
 
-// Looks into the document at an index, where there is one that can be read.
+// Looks into the document at an index, if there is one that can be read.
 fn look_into<R: World>(rt: &R, at: usize, found: &mut Findings) -> Result<(), AllocError> {
     let alloc = rt.alloc();
     let file = match found.files.get(at) {
@@ -332,7 +332,7 @@ fn path_of_run(alloc: Global, file: &str, name: &str) -> Result<String, AllocErr
     }
 }
 
-// The path that a URL names; the URL itself where it names none.
+// The path that a URL names; the URL itself if it names none.
 fn path_at_url(alloc: Global, url: &str) -> Result<Text, AllocError> {
     let url = Text::from_text(alloc, url)?;
     match path_at(alloc, &url)? {

@@ -9,20 +9,20 @@ use proc_host::HostFault;
 use program_words::{RunWords, Savings};
 use std::alloc::{AllocError, Global};
 
-/// How the program ends, and what is told beside that.
+/// How the program ends, and what is said beside that.
 #[derive(Drop)]
 pub struct RunEnd {
     pub exit: Exit,
-    /// The work folder, where it stays.
+    /// The work folder, if it stays.
     pub left: Option<Text>,
     /// Lines on what failed.
     pub notes: Vec<String>,
-    /// What became of its jobs, where a run that succeeded tells of it.
+    /// What became of its jobs, if a run that succeeded says it.
     pub savings: Option<Savings>,
 }
 
 impl RunEnd {
-    /// An end of which nothing else is told.
+    /// An end of which nothing else is said.
     pub fn bare(alloc: Global, exit: Exit) -> RunEnd
         ensures exit { result.exit ≡ exit }
         ensures left { result.left ≡ None }
@@ -35,7 +35,7 @@ impl RunEnd {
         }
     }
 
-    /// Adds the work folder, where it stays for this end.
+    /// Adds the work folder, if it stays for this end.
     pub fn leaving(self, alloc: Global, words: &RunWords, work: &Text) -> Result<RunEnd, AllocError>
         ensures exit { IfOk result (λ end. end.exit ≡ self.exit) }
         ensures left { IfOk result (λ end. end.left
@@ -72,7 +72,7 @@ fn left_of(
     Ok(None)
 }
 
-// Whether the work folder stays: where that is asked for, and where a result lies there that could not be delivered.
+// Whether the work folder stays: if that is asked for, and if a result lies there that could not be delivered.
 fn stays(words: &RunWords, exit: &Exit) -> bool
     ensures { result ≡ spec.stays (wish_of_run words.now) exit.now }
 {

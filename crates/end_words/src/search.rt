@@ -28,9 +28,9 @@ struct Search {
     waiting: Vec<Text>,
 }
 
-/// Reads the documents that a document leads to, each once, where their files can be read: `MOST_PROCESSES` at most, since more are refused.
+/// Reads the documents that a document leads to, each once, if their files can be read: `MOST_PROCESSES` at most, since more are refused.
 ///
-/// A document with a fault names nothing here: what is wrong, and what is absent, is said where the documents are put together.
+/// A document with a fault names nothing here: what is wrong, and what is absent, is said when the documents are put together.
 pub fn reached_from<R: AllocGlobal + Files>(
     rt: &R,
     document: &Document,
@@ -80,7 +80,7 @@ impl Search {
         }
     }
 
-    // Reads the document of a URL, where it can be read.
+    // Reads the document of a URL, if it can be read.
     fn visit<R: AllocGlobal + Files>(&mut self, rt: &R, url: Text) -> Result<(), AllocError> {
         let Some(base) = url_of(rt.alloc(), &url)? else {
             return Ok(());
@@ -143,7 +143,7 @@ impl Search {
     }
 }
 
-/// The path that a URL names, where it names one.
+/// The path that a URL names, if it names one.
 pub fn path_at(alloc: Global, url: &Text) -> Result<Option<Text>, AllocError> {
     match url_of(alloc, url)? {
         Some(base) => path_of(alloc, url, &base),

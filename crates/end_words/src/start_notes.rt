@@ -1,4 +1,4 @@
-//! What is told of a command that can't be started, of a folder that can't be listed, and of what a job left.
+//! What is said of a command that can't be started, of a folder that can't be listed, and of what a job left.
 
 use command_line::Launch;
 use proc_host::{Entry, HostAnswer, HostFault};
@@ -7,7 +7,7 @@ use run_facts::{launch_in, launch_with, listing_of};
 use staging::Found;
 use std::alloc::{AllocError, Global};
 
-/// How many names of a folder are told.
+/// How many names of a folder are shown.
 const MOST_NAMES: usize = 10;
 
 /// Adds a line with the folders that a program was looked for in, which was named without one.

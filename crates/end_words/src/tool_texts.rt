@@ -1,4 +1,4 @@
-//! The texts of tools and steps that have patterns and references, and what is told of them.
+//! The texts of tools and steps that have patterns and references, and what is said of them.
 
 use crate::references::{Runtime, Scope, Spoken, add_references, written};
 use collected_outputs::{CollectFault, OutputFault};
@@ -11,7 +11,7 @@ use std::alloc::{AllocError, Global};
 
 // ---- places
 
-/// The tool of the job at a place, which is JSON text; none where a name in it is escaped.
+/// The tool of the job at a place, which is JSON text; none if a name in it is escaped.
 pub fn tool_of<'a>(process: &'a Process, place: &str) -> Option<&'a Tool> {
     let mut inside = process;
     for part in place.split('/').skip(1) {
@@ -53,7 +53,7 @@ fn step_name(part: &str) -> &str {
 // ---- references
 
 /// Returns lines on the references of what makes a tool's command: on the first that begins with a name that is not known, speaks of an
-/// input that the tool has not, or of what no value of its type has; where there is none, on those that need not have a value.
+/// input that the tool has not, or of what no value of its type has; if there is none, on those that need not have a value.
 pub fn tool_lines(
     alloc: Global,
     process: &Process,

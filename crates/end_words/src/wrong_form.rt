@@ -1,4 +1,4 @@
-//! What stands where a document has to have another form.
+//! What a document has in the place of another form.
 
 use crate::advice::line;
 use document_table::{Way, plain_id};
@@ -7,7 +7,7 @@ use serde_json::Value;
 use std::alloc::{AllocError, Global};
 use std::mem;
 
-/// Returns a line on the value at a place of a document, whose steps are given, the last one first; none where it has no such place.
+/// Returns a line on the value at a place of a document, whose steps are given, the last one first; none if it has no such place.
 pub fn form_lines(
     alloc: Global,
     document: &[u8],
@@ -57,7 +57,7 @@ fn value_lines(alloc: Global, value: &Value, outward: &[Way]) -> Result<Vec<Stri
     }
 }
 
-// Whether a name can't be an id, where ids have to be.
+// Whether a name can't be an id, in a place of ids.
 fn is_bad_id(name: &str, above: &str) -> bool {
     let id = plain_id(name);
     match above {
@@ -71,7 +71,7 @@ fn is_bad(id: &str) -> bool {
     id.is_empty() || id.contains('/') || id.contains('#')
 }
 
-// What a value has to be: of some values it is told by what is wrong with them.
+// What a value has to be: of some values the words are what is wrong with them.
 fn wanted_of(value: &Value, outward: &[Way]) -> &'static str {
     match (value, outward) {
         (Value::Number(_), [_, inside @ ..]) if is_in_default(inside) => WHOLE,
@@ -118,7 +118,7 @@ fn script_words(alloc: Global, text: &str) -> Result<String, AllocError> {
     )
 }
 
-// What the value at a place has to be, as far as that can be told from the names that lead there; else nothing.
+// What the value at a place has to be, as far as the names that lead there show it; else nothing.
 fn wanted_at(outward: &[Way]) -> &'static str {
     match outward {
         [Way::At(_), Way::Under(name), ..] => wanted_item(name.as_str()),

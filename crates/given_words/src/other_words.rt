@@ -1,6 +1,6 @@
 //! Options of another runner, and what does the same here.
 
-/// Returns what does here what this option asks of `cwltool`, where it is no option of this program.
+/// Returns what does here what this option asks of `cwltool`, if it is no option of this program.
 pub fn answer_to(option: &str) -> Option<&'static str> {
     match option {
         "--no-container"
@@ -15,7 +15,9 @@ pub fn answer_to(option: &str) -> Option<&'static str> {
         | "--no-read-only"
         | "--user-space-docker-cmd" => Some(CONTAINERS),
         "--cachedir" => Some("`--cache DIR` keeps what jobs give"),
-        "--debug" | "--timestamps" => Some("`--verbose` tells of each job and shows its messages"),
+        "--debug" | "--timestamps" => Some(
+            "`--verbose` says when each job starts and ends, and shows its messages",
+        ),
         "--tmpdir-prefix" | "--tmp-outdir-prefix" | "--basedir" => {
             Some("`--work DIR` is the folder for the jobs")
         }

@@ -5,7 +5,7 @@ ghost use Rattle.given_words.specs.Slots as spec;
 
 use std::alloc::{AllocError, Global};
 
-/// Returns the words with the number of processors where they ask for all of them.
+/// Returns the words with the number of processors if they ask for all of them.
 pub fn with_slots(alloc: Global, words: &[String], count: u64) -> Result<Vec<String>, AllocError>
     ensures { IfOk result (λ found. map string_bytes found.items
         ≡ spec.with_slots count (map string_bytes words.now)) }

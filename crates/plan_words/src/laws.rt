@@ -11,7 +11,7 @@ pub fn computed_jobs_cost_less()
     ensures { ComputedCostLess }
 {}
 
-/// Where a cheapest plan loads a job that takes less time to compute, it does without something that the job reads.
+/// If a cheapest plan loads a job that takes less time to compute, it does without something that the job reads.
 pub fn dear_loads_spare_parents()
     ensures { DearLoadsSpareParents }
 {}

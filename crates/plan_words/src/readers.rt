@@ -31,7 +31,7 @@ fn zeros(alloc: Global, count: usize) -> Result<Vec<usize>, AllocError>
     vec![in alloc; 0; count]
 }
 
-// Adds 1 for each of these jobs, where they count.
+// Adds 1 for each of these jobs, if they count.
 fn count_if(counts: &mut Vec<usize>, jobs: &[usize], they_count: bool)
     requires there { All (λ job. job < length counts.old.items) jobs.now }
     requires room { (job : ℕ) → job < length counts.old.items → slice_index counts.old.items job

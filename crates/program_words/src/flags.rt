@@ -8,7 +8,7 @@ use clap::{Arg, ArgAction, ArgMatches, Command, Error};
 use std::alloc::Global;
 
 const EXPLAIN_HELP: &str =
-    "Say in words what went wrong, and where; on a terminal and where DEPAROHI_EXPLAIN is 1 it is said unasked";
+    "Say in words what went wrong, and where; on a terminal, and if DEPAROHI_EXPLAIN is 1, it is said unasked";
 
 const QUIET_HELP: &str = "Say no more than what came of it";
 

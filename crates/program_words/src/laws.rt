@@ -6,7 +6,7 @@ pub fn text_is_one_word()
     ensures { IsReadOnce }
 {}
 
-/// A line is that of one command at most: it tells the words apart, and the files of the streams.
+/// A line is that of one command at most: from it the words can be read back, and the files of the streams.
 pub fn line_is_one_command()
     ensures { IsToldOnce }
 {}

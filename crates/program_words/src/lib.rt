@@ -1,10 +1,10 @@
-//! The words that the program takes, and those in which it tells of jobs and commands; nothing here knows a run.
+//! The words that the program takes, and those in which it speaks of jobs and commands; nothing here knows a run.
 //!
 //! - `choice_of` gives what words ask for, exactly as `clap` reads them by the rules of `specs/CommandLine.antt`, or a kind by which they may
 //!   be refused.
 //! - `add_terminal_words` adds what a terminal asks for unasked, and `name_json_word` names the option that `--progress=json` stands for.
 //! - `line_of` writes a command as a shell takes it, each word once and as that word alone (`text_is_one_word`, `line_is_one_command`).
-//! - `Teller` writes the lines of `--verbose`, `--progress` and `--progress=json`, each where it is asked for alone; `reason_for` says why a job
+//! - `Teller` writes the lines of `--verbose`, `--progress` and `--progress=json`, each only if it is asked for; `reason_for` says why a job
 //!   is computed.
 //! - `savings_line` says what became of the jobs of a run, how long it took, and what it saved.
 //! - `visible` shows foreign text with a code for what a terminal would hide.

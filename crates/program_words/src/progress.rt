@@ -5,7 +5,7 @@ ghost use Rattle.program_words.specs.Progress as spec;
 
 use std::alloc::{AllocError, Global};
 
-/// The most characters that are shown of a place, and how many of each end where it has more.
+/// The most characters that are shown of a place, and how many of each end if it has more.
 const MOST_OF_PLACE: usize = 21;
 
 const EACH_END: usize = 9;
@@ -70,7 +70,7 @@ fn counted(alloc: Global, counts: Counts) -> Result<String, AllocError>
     format!(in alloc; "{done} of {known} jobs done, {running} running, {left} left")
 }
 
-// A text of at most 21 characters: its ends, where it has more.
+// A text of at most 21 characters: its ends, if it has more.
 fn in_short(alloc: Global, text: &str) -> Result<String, AllocError>
     ensures { IfOk result (λ short. string_bytes short ≡ spec.in_short text.now) }
 {

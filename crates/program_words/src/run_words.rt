@@ -27,7 +27,7 @@ const USUAL_RATE: u64 = 100_000;
 
 const WORK_HELP: &str = "The folder for the jobs, made and removed by the run [cwl-work]";
 
-const OUTDIR_HELP: &str = "The folder for the output files, made where it is absent [.]";
+const OUTDIR_HELP: &str = "The folder for the output files, made if it is absent [.]";
 
 const SLOTS_HELP: &str =
     "How many jobs may run side by side, from 1 to 64 [1]; `all` are the processors of the machine, as by `--parallel`";
@@ -36,33 +36,33 @@ const RETRIES_HELP: &str =
     "How often a job that fails temporarily is started again, from 0 to 10 [0]";
 
 const RECORD_HELP: &str =
-    "The file of a record, made where it is absent, which keeps what each job gives and ends a run that gives something else";
+    "The file of a record, made if it is absent, which keeps what each job gives and ends a run that gives something else";
 
 const ARCHIVE_HELP: &str =
-    "The folder that keeps the files of each job, made where it is absent; they are fetched where that costs less than the job";
+    "The folder that keeps the files of each job, made if it is absent; they are fetched if that costs less than the job";
 
 const CACHE_HELP: &str =
-    "The folder of a record and an archive, made where it is absent: `--record DIR/jobs.db --archive DIR/files`";
+    "The folder of a record and an archive, made if it is absent: `--record DIR/jobs.db --archive DIR/files`";
 
 const BASE_HELP: &str = "What it costs to load the files of any job, from 0 to 10^12 [1]";
 
 const RATE_HELP: &str = "How many bytes are loaded for a cost of 1, from 1 to 10^12 [100000]";
 
 const VERBOSE_HELP: &str =
-    "Tell of each job as it starts and ends, and show what the commands say on standard error";
+    "Say when each job starts and ends, and show what the commands write to standard error";
 
 const PROGRESS_HELP: &str =
     "Show in one line how many jobs are done, run and are left; on a terminal it is shown unasked";
 
 const OBJECTS_HELP: &str =
-    "Tell of each job as it starts and ends in a line of JSON, as by `--progress=json`";
+    "Say when each job starts and ends, in lines of JSON, as by `--progress=json`";
 
 const KEEP_HELP: &str = "Leave the work folder as it is at the end, and say where it is";
 
 const KEEP_FAILED_HELP: &str = "Leave it after a failure";
 
 const VALIDATE_HELP: &str =
-    "Read and check the document, and INPUTS where it is given, say what the inputs are, and run nothing";
+    "Read and check the document, and INPUTS if it is given, say what the inputs are, and run nothing";
 
 const TEMPLATE_HELP: &str =
     "Print an input object for the document, to be filled in, and run nothing";
@@ -96,7 +96,7 @@ pub struct RunWords<'a> {
     /// Whether the work folder is to stay, and whether it is to stay after a failure.
     pub keep: bool,
     pub keep_failed: bool,
-    /// How to tell of the jobs.
+    /// What to say of the jobs while they run.
     pub telling: Telling,
     /// What to show of the process: what comes of its run, or what can be said without one.
     pub shows: Shows,
@@ -263,7 +263,7 @@ pub fn with_inputs<'a>(alloc: Global, command: Command<'a>) -> Result<Command<'a
     Ok(command)
 }
 
-// The subcommand `run` with these, and with how it tells of its jobs.
+// The subcommand `run` with these, and with what it says of its jobs.
 fn objects_command<'a>(alloc: Global) -> Result<Command<'a>, Error>
     ensures ok { IfOk result (λ command. app_of command
         ≡ fold with_rule (new_app (codes "run")) (shared_rules ++ telling_rules)) }
@@ -339,7 +339,7 @@ pub fn run_words<'a>(words: &ArgMatches<'a>) -> RunWords<'a>
     }
 }
 
-// How the words want the jobs to be told of.
+// What the words want to be said of the jobs.
 fn telling_of(words: &ArgMatches) -> Telling
     ensures { result ≡ telling_in (rows_of (found_of words.now)) }
 {
@@ -355,7 +355,7 @@ fn telling_of(words: &ArgMatches) -> Telling
     Telling::Nothing
 }
 
-/// How many children may run side by side: one where the words don't say.
+/// How many children may run side by side: one if the words don't say.
 pub fn slots_of(words: &RunWords) -> u64
     ensures chosen { IsChosen 1 64 1 (option_map (λ s. s.now) words.now.slots) result }
     ensures least { 1 ≤ result }
@@ -367,7 +367,7 @@ pub fn slots_of(words: &RunWords) -> u64
     }
 }
 
-/// How often a job that fails temporarily is started again: never where the words don't say.
+/// How often a job that fails temporarily is started again: never if the words don't say.
 pub fn retries_of(words: &RunWords) -> u64
     ensures chosen { IsChosen 0 10 0 (option_map (λ s. s.now) words.now.retries) result }
     ensures most { result ≤ 10 }
@@ -378,7 +378,7 @@ pub fn retries_of(words: &RunWords) -> u64
     }
 }
 
-/// What any load costs: 1 where the words don't say.
+/// What any load costs: 1 if the words don't say.
 pub fn load_base_of(words: &RunWords) -> u64
     ensures chosen { IsChosen 0 1000000000000 1 (option_map (λ s. s.now) words.now.base) result }
     ensures most { result ≤ 10 ^ 12 }
@@ -389,7 +389,7 @@ pub fn load_base_of(words: &RunWords) -> u64
     }
 }
 
-/// How many bytes are loaded for a cost of 1: 100,000 where the words don't say.
+/// How many bytes are loaded for a cost of 1: 100,000 if the words don't say.
 pub fn load_rate_of(words: &RunWords) -> u64
     ensures chosen { IsChosen 1 1000000000000 100000 (option_map (λ s. s.now) words.now.rate)
         result }

@@ -20,7 +20,7 @@ pub struct Savings {
     pub could_load: bool,
 }
 
-/// The line that says it. Where no job could have been loaded nothing is said of loads, and of what they saved.
+/// The line that says it. If no job could have been loaded nothing is said of loads, and of what they saved.
 pub fn savings_line(alloc: Global, savings: &Savings) -> Result<String, AllocError>
     ensures { IfOk result (λ line. string_bytes line ≡ spec.savings_line savings.now) }
 {

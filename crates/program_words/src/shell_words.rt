@@ -122,7 +122,7 @@ fn add_escaped(line: &mut String, word: &str) -> Result<(), AllocError>
     line.push('\'')
 }
 
-// Adds a character inside `$'..'`, by its bytes where it would move, hide or turn others.
+// Adds a character inside `$'..'`, by its bytes if it would move, hide or turn others.
 fn add_in_dollar_quotes(line: &mut String, c: char) -> Result<(), AllocError>
     ensures { OnOk result (spec.Adds (spec.IsWritten (encode_utf8 c)) (string_bytes line.old)
         (string_bytes line.new)) }

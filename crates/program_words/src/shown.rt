@@ -41,7 +41,7 @@ fn add_shown(shown: &mut String, c: char) -> Result<(), AllocError>
     }
 }
 
-/// Whether a character moves, hides or turns others where it is written to a terminal.
+/// Whether a character moves, hides or turns others when it is written to a terminal.
 pub fn is_hidden(c: char) -> bool
     ensures { result ≡ spec.is_hidden c }
 {
@@ -94,7 +94,7 @@ fn digit_of(digit: u8) -> u8
     }
 }
 
-/// Returns a line in which each word of more than 200 characters has its middle left out, and the line its own where it has still more
+/// Returns a line in which each word of more than 200 characters has its middle left out, and the line its own if it has still more
 /// than 1,000.
 pub fn cut(alloc: Global, line: &str) -> Result<String, AllocError> {
     let words = with_short_words(alloc, line)?;
@@ -113,7 +113,7 @@ fn with_short_words(alloc: Global, line: &str) -> Result<String, AllocError> {
     Ok(whole)
 }
 
-// A text of at most so many characters: its beginning and its end, where it has more.
+// A text of at most so many characters: its beginning and its end, if it has more.
 fn short(alloc: Global, text: &str, most: usize) -> Result<String, AllocError> {
     let count = text.chars().count();
     if count <= most {

@@ -1,4 +1,4 @@
-//! What a run tells of its jobs on standard error while it goes on.
+//! What a run says of its jobs on standard error while it goes on.
 ghost use Rattle.std.specs.Prelude.{◌≡◌, ◌≢◌, List, ℕ, ◌++◌, Some, codes, IfOk, OnOk, string_bytes};
 ghost use Rattle.std.specs.Io.KnownBytes.{Appends};
 ghost use Rattle.program_words.specs.JobLines as spec;
@@ -21,7 +21,7 @@ use std::alloc::{AllocError, Global};
 use std::io;
 use std::io::Write;
 
-/// How a run tells of its jobs.
+/// What a run says of its jobs.
 #[derive(Clone, Copy, Debug, PartialEq, Eq)]
 pub enum Telling {
     Nothing,
@@ -33,9 +33,9 @@ pub enum Telling {
     Objects,
 }
 
-/// Is told what becomes of the jobs of a run, each by its place as JSON text.
+/// Hears what becomes of the jobs of a run, each by its place as JSON text.
 pub trait Listen {
-    /// The job is about to be started, for this reason where it could have been loaded.
+    /// The job is about to be started, for this reason if it could have been loaded.
     fn starts(&mut self, place: &Text, launch: &Launch, why: Option<Why>, counts: Counts);
 
     /// The command of a job has been started, under this ticket, and this job runs longest.
@@ -50,7 +50,7 @@ pub trait Listen {
     fn omitted(&mut self, place: &Text);
 }
 
-/// Tells nothing.
+/// Says nothing.
 #[derive(Clone, Copy, Debug)]
 pub struct Silent;
 
@@ -81,18 +81,18 @@ impl Listen for Silent {
 /// Takes a terminal back to the beginning of its line, and empties it.
 const ERASE: &str = "\r\u{1b}[K";
 
-/// Tells of the jobs of a run. What can't be written is left out.
+/// Says what becomes of the jobs of a run. What can't be written is left out.
 #[derive(Drop)]
 pub struct Teller<'a, E: Write> {
     alloc: Global,
     err: &'a mut E,
     telling: Telling,
-    // the command that is about to be started, as JSON text, where its start is told in JSON
+    // the command that is about to be started, as JSON text, if its start is said in JSON
     command: Option<Text>,
 }
 
 impl<'a, E: Write> Teller<'a, E> {
-    /// Makes one that tells so, on this writer.
+    /// Makes one that says so, on this writer.
     pub fn new(alloc: Global, err: &'a mut E, telling: Telling) -> Teller<'a, E>
         ensures told { result.telling ≡ telling }
         ensures err { E.contents result.err.now ≡ E.contents err.old }
@@ -127,7 +127,7 @@ impl<'a, E: Write> Teller<'a, E> {
         writeln!(self.err, "{line}")
     }
 
-    /// Tells of a line that the command of the job at a place has written, as it is shown.
+    /// Writes a line that the command of the job at a place has written, as it is shown.
     pub fn say(&mut self, place: &Text, words: &str) {
         let _told = self.tell_line(place, words);
     }

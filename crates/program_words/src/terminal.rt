@@ -1,4 +1,4 @@
-//! What is asked for unasked where standard error is a terminal.
+//! What is asked for unasked when standard error is a terminal.
 ghost use Rattle.std.specs.Prelude.{◌≡◌, map, bytes_eq, OnOk, string_bytes};
 ghost use Rattle.std.specs.List.{list_any};
 ghost use Rattle.program_words.specs.Terminal as spec;

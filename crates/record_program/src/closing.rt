@@ -11,7 +11,7 @@ use std::alloc::Global;
 use std::mem;
 
 /// Forgets the rows whose key has this SHA-1, and closes the record in good order, so that its file alone holds it. Gives the
-/// files back where they were closed, and else ends with a fault.
+/// files back if they were closed, and else ends with a fault.
 pub fn forgotten_for_good<D: Disk + Drop>(
     alloc: Global,
     mut kept: JobRecord<FileStore<D>>,

@@ -42,7 +42,7 @@ impl Ending {
     }
 }
 
-/// Returns how the command ends where the record could not be closed: with that, in place of rows. What went wrong first is told.
+/// Returns how the command ends if the record could not be closed: with that, in place of rows. What went wrong first is said.
 #[tactic(auto, using(crate::specs::Endings::no_file, crate::specs::Endings::faulty))]
 pub fn unclosed(ending: Ending, error: Error) -> Ending
     ensures told { result ≡ unclosed error ending }

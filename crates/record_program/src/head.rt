@@ -33,7 +33,7 @@ pub enum Head {
     Database,
 }
 
-/// Returns what a file is by its first 100 bytes, or by all that it has where they are fewer.
+/// Returns what a file is by its first 100 bytes, or by all that it has if they are fewer.
 pub fn head_of(bytes: &[u8]) -> Head
     ensures { result ≡ head_of bytes.now }
 {

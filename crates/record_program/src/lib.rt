@@ -4,7 +4,7 @@
 //! `Records` is what the program asks: how the command ends on a file, and the record of a file for a run. `main_run` is the command
 //! over two writers. It opens the file, forgets the rows whose key has a given SHA-1, and prints a line for each row that is left.
 //! `ended` says from the rows alone what is printed (`specs/Lines.antt`), and `keys_with` which keys have the sum. A file
-//! that holds no record is refused and left as it is: the command makes nothing of it. For a run a record is made where there is none.
+//! that holds no record is refused and left as it is: the command makes nothing of it. For a run a record is made if there is none.
 //! Before the store opens a file, `look` reads the first bytes of it and of its log, and `head_of` says what they are
 //! (`specs/Head.antt`); before a row is read, `tables` looks whether both tables are tables.
 #![tactic(auto)]

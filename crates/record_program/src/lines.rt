@@ -57,7 +57,7 @@ pub fn sum_of_key(alloc: Global, key: &str) -> Result<String, AllocError>
     hex::encode(alloc, Sha1::digest(key.as_bytes()))
 }
 
-// The bytes of all files, or the greatest number where they are more.
+// The bytes of all files, or the greatest number if they are more.
 fn bytes_of(files: &[Found]) -> u64
     ensures { result ≡ bytes_of files.now }
 {

@@ -43,7 +43,7 @@ pub fn looked(rt: &HostRuntime, file: &str) -> Result<Look, RecordFault> {
     }
 }
 
-/// The same, where the file may be absent.
+/// The same, if the file may be absent.
 pub fn looked_if_there(rt: &HostRuntime, file: &str) -> Result<Option<Look>, RecordFault> {
     match fs::metadata(rt, file) {
         Err(error) if error.kind() == io::ErrorKind::NotFound => Ok(None),

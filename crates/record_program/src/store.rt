@@ -33,7 +33,7 @@ pub fn shown<S: Alter>(alloc: Global, kept: &mut JobRecord<S>) -> Ending
     ended(alloc, rows)
 }
 
-/// Forgets the rows whose key has this SHA-1, and shows those that are left. Where no row has it, that is R3, and the
+/// Forgets the rows whose key has this SHA-1, and shows those that are left. If no row has it, that is R3, and the
 /// record is as it was.
 #[tactic(auto, using(crate::specs::Endings::faulty))]
 pub fn forgotten<S: Alter>(alloc: Global, kept: &mut JobRecord<S>, sum: &str) -> Ending

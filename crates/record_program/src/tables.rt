@@ -17,7 +17,7 @@ const META: &str = "SELECT value FROM meta WHERE name = 'version'";
 const VIEWS: &str =
     "SELECT count(*) FROM sqlite_schema WHERE type = 'view' AND lower(name) IN ('meta', 'job')";
 
-/// Opens the record that a database holds. One with neither table is made a record only where `makes` says so.
+/// Opens the record that a database holds. One with neither table is made a record only if `makes` says so.
 pub fn as_record<S: Alter + Drop>(
     alloc: Global,
     mut conn: Connection<S>,
