@@ -1,6 +1,6 @@
 """Refuses one request for memory of a whole run, the first one, the second one, and so on until none is met, and asks that the run says so or ends as it would.
 
-usage: memory.py PROGRAM [WORD..]        WORD picks the runs that have it
+usage: memory.py [--every N] PROGRAM [WORD..]        WORD picks the runs that have it; with `--every 50` the first request, the 51st and so on
 
 The program is the proved one, whose memory is malloc's: malloc.c stands in for it, and is built by cc. A program that checks itself has a malloc of its own, so it is not taken.
 The runs: a tool; a scatter over two lists, crosswise; a step that runs only where an input says so, over three; two jobs one after the other with a record and an archive that
@@ -152,7 +152,7 @@ class Scene:
         return True, ended, wrong + [f"then {it}" for it in self.wrong_output(status, said) + ([told] if told else [])]
 
 
-def tried_all(one, name):
+def tried_all(one, name, step):
     counts, failed, number, told = collections.Counter(), 0, 1, time.monotonic()
     while True:
         met, ended, wrong = one.tried(number)
@@ -165,19 +165,20 @@ def tried_all(one, name):
         if time.monotonic() - told > 30:
             told = time.monotonic()
             print(f"{name}: {number} requests", file=sys.stderr, flush=True)
-        number += 1
-    print(f"{name}: {number - 1} requests: " + ", ".join(f"{ended} {count}" for ended, count in counts.most_common()), flush=True)
+        number += step
+    print(f"{name}: {sum(counts.values())} requests: " + ", ".join(f"{ended} {count}" for ended, count in counts.most_common()), flush=True)
     return failed
 
 
-def main(program, *wanted):
+def main(*words):
+    step, (program, *wanted) = (int(words[1]), words[2:]) if words[0] == "--every" else (1, words)
     folder, failed = os.path.realpath(tempfile.mkdtemp(dir="/dev/shm" if os.path.isdir("/dev/shm") else None)), 0
     try:
         refuser = f"{folder}/malloc.so"
         subprocess.run(["cc", "-shared", "-fPIC", "-O1", "-o", refuser, f"{HERE}/malloc.c"], check=True)
         for number, run in enumerate(RUNS):
             if not wanted or any(word in run[0] for word in wanted):
-                failed += tried_all(Scene(f"{folder}/{number}", os.path.abspath(program), refuser, run), run[0])
+                failed += tried_all(Scene(f"{folder}/{number}", os.path.abspath(program), refuser, run), run[0], step)
         print(f"not as it has to be: {failed}")
         return 1 if failed else 0
     finally:
