@@ -4,6 +4,7 @@ pub mod Demo
 pub mod Paths
 pub mod Plans
 pub mod Runs
+pub mod Seen
 pub mod Showings
 pub mod Sources
 pub mod Tells

@@ -3,6 +3,7 @@ ghost use Rattle.std.specs.Prelude.{◌≡◌, [], None, Ok, IfOk};
 ghost use Rattle.run_core.specs.Limits.{IsWithinLimits};
 ghost use Rattle.workflow_check.specs.Checked.{fault_in};
 ghost use Rattle.cwl_program.specs.Runs.{IsRanOver};
+ghost use Rattle.cwl_program.specs.Seen.{seen};
 ghost use Rattle.cwl_program.specs.Tells.{IsRunTold};
 
 use crate::caches::{keeps_archive, remembers};
@@ -37,10 +38,9 @@ where
     R::File: Into<Stdio>,
     requires accepted { fault_in given.now.process ≡ None }
     requires limits { IsWithinLimits options }
-    requires fresh { K.log rows.old ≡ [] }
     ensures told { IsRunTold words.now.telling (E.contents err.old) (E.contents err.new) }
     ensures exit { IfOk result (λ end. IsRanOver given.now.process given.now.inputs options
-        (K.log rows.new) end.exit) }
+        (seen K.Record rows.old) (seen K.Record rows.new) end.exit) }
 {
     match machine_of(rt, places, words.keep) {
         Ok(host) => { told_of(rt, host, given, options, words, rows, err) }
@@ -99,10 +99,9 @@ where
     requires idle { host.running ≡ [] }
     requires accepted { fault_in given.now.process ≡ None }
     requires limits { IsWithinLimits options }
-    requires fresh { K.log rows.old ≡ [] }
     ensures told { IsRunTold words.now.telling (E.contents err.old) (E.contents err.new) }
     ensures exit { IfOk result (λ end. IsRanOver given.now.process given.now.inputs options
-        (K.log rows.new) end.exit) }
+        (seen K.Record rows.old) (seen K.Record rows.new) end.exit) }
 {
     match words.telling {
         Telling::Nothing => {
@@ -135,9 +134,8 @@ where
     requires idle { host.running ≡ [] }
     requires accepted { fault_in given.now.process ≡ None }
     requires limits { IsWithinLimits options }
-    requires fresh { K.log rows.old ≡ [] }
     ensures { IfOk result (λ end. IsRanOver given.now.process given.now.inputs options
-        (K.log rows.new) end.exit) }
+        (seen K.Record rows.old) (seen K.Record rows.new) end.exit) }
 {
     let (host, memory) = (Heard::new(host, Deaf), memory_of(words));
     let end = ended(rt, host, given, options, &mut teller, memory, rows);
@@ -169,9 +167,8 @@ where
     requires idle { host.running ≡ [] }
     requires accepted { fault_in given.now.process ≡ None }
     requires limits { IsWithinLimits options }
-    requires fresh { K.log rows.old ≡ [] }
     ensures { IfOk result (λ end. IsRanOver given.now.process given.now.inputs options
-        (K.log rows.new) end.exit) }
+        (seen K.Record rows.old) (seen K.Record rows.new) end.exit) }
 {
     let voice = RefCell::new(Voice::new(rt.alloc(), teller));
     let host = Heard::new(host, Speaker::new(&voice));
@@ -196,9 +193,8 @@ where
     requires idle { host.running ≡ [] }
     requires accepted { fault_in given.now.process ≡ None }
     requires limits { IsWithinLimits options }
-    requires fresh { K.log rows.old ≡ [] }
     ensures { IfOk result (λ end. IsRanOver given.now.process given.now.inputs options
-        (K.log rows.new) end.exit) }
+        (seen K.Record rows.old) (seen K.Record rows.new) end.exit) }
 {
     let mut jobs = Jobs::new(rt, listener, memory);
     let report = run(

@@ -194,7 +194,8 @@ where
     match rt.open_record(file) {
         Ok(mut rows) => {
             let end = by_rows(rt, given, call, &mut rows, dot);
-            rt.close_record(rows);
+            let left = rt.close_record(rows);
+            mem::drop(left);
             end
         }
         Err(fault) => without_record(rt.alloc(), fault, file),
