@@ -47,6 +47,8 @@ class InJob:
         self.is_root = rewriter.is_root
         self.is_expression = raw.get("class", "").endswith("ExpressionTool")
         self.refusals: List[Refusal] = []
+        # Files that a working folder's listing names, by the inputs that bring them.
+        self.listed: Dict[str, Fields] = {}
         self.ignored: List[Fields] = []
 
     def refuse(self, node: Any, key: Any, feature: str, words: str) -> None:
@@ -90,6 +92,7 @@ class InJob:
                 made[key] = raw[key]
         self.streams(made)
         self.asked(made)
+        made["inputs"] += [{"name": name, "type": it["class"]} for name, it in self.listed.items()]
         return made
 
     def streams(self, made: Dict[str, Any]) -> None:
@@ -145,12 +148,18 @@ class InJob:
 
     def working_folder(self, made: Dict[str, Any], it: Asked) -> None:
         listing = it.fields.get("listing")
-        made["workdir"] = listing if isinstance(listing, str) else items_of(listing)
+        made["workdir"] = listing if isinstance(listing, str) else [self.entry(one) for one in items_of(listing)]
         for one in listing if isinstance(listing, Items) else []:
-            if isinstance(one, Fields) and "class" in one:
-                self.refuse(one, "class", "File in a listing", "a file that a listing names by its path is not among the job's inputs; give it as the default of an input")
-            elif isinstance(one, Fields) and str(one.get("entryname", "")).startswith("/"):
-                self.refuse(one, "entryname", "absolute entryname", "the entry is outside of the working folder")
+            if isinstance(one, Fields) and str(one.get("entryname", "")).startswith("/"):
+                self.refuse(one, "entryname", "absolute entryname", "the entry is outside of the working folder; a relative one does, where the command takes it from there")
+
+    def entry(self, one: Any) -> Any:
+        """Returns an entry of a listing, of a file that it names by its path a reference to the input that brings it."""
+        if not isinstance(one, Fields) or one.get("class") not in ("File", "Directory") or isinstance(one.get("contents"), str):
+            return one
+        name = f"deparohi_listed_{len(self.listed)}"
+        self.listed[name] = one
+        return f"$(inputs['{name}'])"
 
     def software(self, made: Dict[str, Any]) -> None:
         """Puts a container, or its name, into the plan."""
@@ -189,6 +198,8 @@ class InJob:
             if told.get("secondaryFiles") is not None:
                 self.secondary(one, it)
             made.append(one)
+        for name, it in self.listed.items():
+            made.append(object_of(it, id=name, type=it["class"], default=values.rewritten(object_of(it, default=it), "default", it, it["class"])))
         return made
 
     def secondary(self, one: Fields, it: Fields) -> None:
@@ -244,7 +255,7 @@ def texts_below(value: Any) -> Iterator[Tuple[Any, Any, str]]:
     """Yields the texts of a process that may be evaluated, with their places."""
     if isinstance(value, Fields):
         for key, it in value.items():
-            if key in ("doc", "label", "default", "hints", "expressionLib", "types"):
+            if key in ("doc", "label", "default", "format", "hints", "expressionLib", "types"):
                 continue
             if isinstance(it, str):
                 if has_expression(it):

@@ -2,15 +2,17 @@
 
 from typing import TYPE_CHECKING, Any, Dict, List, Optional, Tuple
 
+from .contents import takes_numbers, texts_of
 from .expressions import is_javascript, parameters
 from .findings import LEFT
 from .flow import Flow, with_null
 from .forms import entry_of, step
 from .javascript_parts import parts_of_any
-from .kinds import are_alike, encoded, item_of, lowered, mentions
+from .kinds import FLOATS, are_alike, encoded, item_of, lowered, may_be_text, mentions
 from .marked import Fields, Items, copied, list_of, marked_of, object_of
 from .names import short
 from .plans import Evaluator, tool_of
+from .references import lengths
 
 if TYPE_CHECKING:
     from .javascript import JavaScript
@@ -30,22 +32,26 @@ class Step:
         self.valued = {key: it["valueFrom"] for key, it in self.entries.items() if isinstance(it.get("valueFrom"), str)}
         self.condition = raw.get("when")
         # Entries that bring numbers in another form than the process reads them in.
-        self.converted = [key for key, it in self.entries.items() if key not in self.valued and self.is_unlike(key)]
+        self.converted = [key for key in self.entries if key not in self.valued and self.is_unlike(key)]
+        is_open = any(mentions(self.kind(key), ("Any",)) for key in self.entries)
+        self.reread = [key for key in self.valued if is_open and mentions(self.flow.target(name, key), FLOATS) or self.asks_length(key)]
         self.valued.update({key: "$(self)" for key in self.converted})
 
     def is_unlike(self, name: str) -> bool:
         """Says whether an entry brings numbers in another form than the process reads them in. Into Any, which tools may bind as it is, none is led."""
-        target = self.flow.process(self.name)[0].get(name)
-        if target is None or are_alike(self.kind(name), target):
+        target, kind = self.flow.process(self.name)[0].get(name), self.kind(name)
+        if target is not None and mentions(kind, ("Any",)) and mentions(target, FLOATS):
+            return True
+        if target is None or are_alike(kind, target):
             return False
-        if mentions(target, ("Any",)):
+        if mentions(target, ("Any",)) and not takes_numbers(self.owner.peek(self.raw, self.flow.names), name, self.owner.peek):
             self.owner.findings.add(LEFT, self.entries[name], None, "float", f"a number with a fraction may come to {name}, which is of the type Any")
             return False
         return True
 
     def without(self) -> Optional[List[Fields]]:
         """Returns what stands for the step, or None where it has no JavaScript, or has some that stays."""
-        if len(self.entries) < len(parameters(self.raw.get("in"))) or not (self.converted or any(map(self.loads, self.valued)) or any(map(is_javascript, [*self.valued.values(), self.condition]))):
+        if len(self.entries) < len(parameters(self.raw.get("in"))) or not (self.converted or self.reread or self.shows_contents() or any(map(self.loads, self.valued)) or any(map(is_javascript, [*self.valued.values(), self.condition]))):
             return None
         if self.is_left():
             return None
@@ -57,6 +63,14 @@ class Step:
         if is_javascript(self.condition):
             self.owner.tell(self.raw, "when")
         return [self.inner()] if self.scattered else [self.evaluation(), self.rest()]
+
+    def asks_length(self, name: str) -> bool:
+        """Says whether an entry is made of the length of a text, which only JavaScript knows."""
+        return self.owner.has_library and any(may_be_text(self.kind(name if it == "self" else it)) for it in lengths(self.valued[name]) if it == "self" or it in self.entries)
+
+    def shows_contents(self) -> bool:
+        """Says whether a text of the step may name contents that an entry asks for."""
+        return any(map(self.loads, self.entries)) and any("contents" in text for text in texts_of(self.raw))
 
     def is_left(self) -> bool:
         """Says whether some JavaScript stays, with the reason of each text."""

@@ -34,6 +34,11 @@ def is_bare(kind: Any) -> bool:
     return any(it in FLOATS for it in members if isinstance(it, str)) and not any(is_enum(it) or isinstance(it, str) and it in TEXTS for it in members)
 
 
+def may_be_text(kind: Any) -> bool:
+    """Says whether a value of a type may be a text."""
+    return any(is_enum(it) or isinstance(it, str) and it in TEXTS for it in members_of(kind))
+
+
 def expanded(kind: Any) -> Any:
     """Returns a type without the short forms `[]` and `?`, of which nothing is named any more."""
     if isinstance(kind, str):

@@ -5,17 +5,18 @@ from typing import Any, Callable, Dict, NamedTuple, Optional, Set, Tuple
 
 from .checking import Checker
 from .choices import Choices
+from .contents import is_read_there, pushed_down
 from .expressions import parameters
 from .findings import IGNORED, LEFT, REWRITTEN, WRONG, Findings
 from .flow import Flow, kinds_of, list_type
-from .in_job import InJob
+from .in_job import InJob, texts_below
 from .javascript import JavaScript, Library
-from .kinds import are_alike, encoded
+from .kinds import are_alike, encoded, may_be_text
 from .links import lone_picks
 from .marked import Fields, Items, copied, object_of
 from .names import class_name, short, source_name
 from .plans import Evaluator
-from .references import faults, has_expression
+from .references import JAVASCRIPT, faults, has_expression, lengths
 from .requirements import Asked, Requirements, ToolTexts, entries
 from .shell import command_of
 from .secondary import patterns_in_place
@@ -96,6 +97,7 @@ class Rewriter:
             self.is_root = False
         library = self.javascript.library(raw, scope.library)
         names = {**scope.names, **named_types(raw)}
+        raw = pushed_down(raw) if kind_of(raw) == "Workflow" else raw
         raw = self.javascript.without(raw, kind_of(raw), library, "LoadListingRequirement" not in scope.carried, names, scope.version)
         kind = kind_of(raw)
         outer, self.types = self.types, Types(self.findings, names)
@@ -291,6 +293,18 @@ class Rewriter:
         if shell:
             command_of(made, raw)
         self.software(made, asked)
+        self.lengths(raw)
+
+    def lengths(self, raw: Fields) -> None:
+        """Finds where the length of a text is asked for, which only JavaScript knows."""
+        kinds = kinds_of(raw.get("inputs"), self.types.names)
+        for name, it in parameters(raw.get("inputs")):
+            binding = it.get("inputBinding") if isinstance(it, Fields) else None
+            if isinstance(binding, Fields) and isinstance(binding.get("valueFrom"), str) and "self" in lengths(binding["valueFrom"]) and may_be_text(kinds[short(name)]):
+                self.findings.add(LEFT, binding, "valueFrom", JAVASCRIPT, "only JavaScript knows the length of a text")
+        for node, key, text in texts_below(raw):
+            if any(may_be_text(kinds.get(name)) for name in lengths(text)):
+                self.findings.add(LEFT, node, key, JAVASCRIPT, "only JavaScript knows the length of a text")
 
     def software(self, made: Fields, asked: Dict[str, Asked]) -> None:
         """Gives a tool whose container and software are left to this machine an input of their names, so that they tell jobs apart."""
@@ -347,7 +361,7 @@ class Rewriter:
             if key == "id" and isinstance(it, str):
                 it = short(it)
             elif key == "in":
-                it = self.step_inputs(it, whole, self.targets(raw, scope.names))
+                it = self.step_inputs(it, whole, self.targets(raw, scope.names), self.read_there(raw, scope.names))
             elif key == "out":
                 it = self.short_names(it)
             elif key == "scatter":
@@ -392,14 +406,20 @@ class Rewriter:
                 kinds[short(it)] = list_type(kinds[short(it)])
         return kinds
 
-    def step_inputs(self, value: Any, whole: Tuple[str, Set[str]], targets: Dict[str, Any]) -> Any:
+    def read_there(self, raw: Fields, names: Dict[str, Any]) -> Set[str]:
+        """Returns the entries that ask for contents which the process reads itself, or doesn't name."""
+        asked = [short(key) for key, it in parameters(raw.get("in")) if isinstance(it, Fields) and it.get("loadContents") is True]
+        found = self.javascript.peek(raw, names) if asked else None
+        return {name for name in asked if is_read_there(found, name, self.javascript.peek)}
+
+    def step_inputs(self, value: Any, whole: Tuple[str, Set[str]], targets: Dict[str, Any], read: Set[str]) -> Any:
         if not isinstance(value, (Fields, Items)):
             return value
         listed = value.like()
         for key, it in enumerate(value) if isinstance(value, Items) else value.items():
             if isinstance(it, Fields):
                 name = short(str(it.get("id") if isinstance(value, Items) else key))
-                it = self.step_input(it, whole, targets.get(name))
+                it = self.step_input(it, whole, targets.get(name), name in read)
             elif isinstance(value, Fields):
                 it = value.like() if it is None else self.clean(it, whole)
             if isinstance(value, Items):
@@ -409,7 +429,7 @@ class Rewriter:
                 listed.put(short(key), it, value.line_of(key))
         return listed
 
-    def step_input(self, raw: Fields, whole: Tuple[str, Set[str]], kind: Any) -> Fields:
+    def step_input(self, raw: Fields, whole: Tuple[str, Set[str]], kind: Any, is_read: bool) -> Fields:
         made = raw.like()
         for key, it in raw.items():
             line = raw.line_of(key)
@@ -425,7 +445,9 @@ class Rewriter:
             elif key == "valueFrom":
                 self.text(raw, key, it, folders=False, runtime=False)
             elif key == "loadContents" and it is True:
-                self.findings.add(LEFT, raw, key, "loadContents of a workflow", "this runner loads contents for tools alone")
+                if is_read and "valueFrom" not in raw:
+                    continue
+                self.findings.add(LEFT, raw, key, "loadContents of a workflow", "this runner loads contents for tools alone, and the process names them without asking for them: let its input ask")
             elif key == "loadListing" and it in ("no_listing", "deep_listing"):
                 continue
             made.put(key, it, line)

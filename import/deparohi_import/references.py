@@ -7,6 +7,9 @@ SEGMENT = r"""(?:\.[A-Za-z0-9_]+|\['[^'\\]*'\]|\["[^"\\]*"\]|\[[0-9]+\])"""
 REFERENCE = re.compile(r"\$\(([A-Za-z0-9_]+)((?:" + SEGMENT + r")*)\)")
 JAVASCRIPT, BACKSLASH, NAME, RUNTIME, PATH = "JavaScript", "backslash beside a reference", "unknown name in a reference", "runtime.", "path outside a command"
 OF_RUNTIME = ("cores", "outdir", "tmpdir")
+# What a File has that is a text or a number: only JavaScript finds something in it, as the length of its contents.
+INNER = re.compile(r"(?:\.|\[['\"])(?:basename|checksum|class|contents|dirname|location|nameext|nameroot|path|size)(?:['\"]\])?[.\[]")
+LENGTH = re.compile(r"(" + SEGMENT + r")?\.length")
 PLACE = re.compile(r"(?:\.|\[['\"])(path|dirname|location)(?![A-Za-z0-9_])")
 
 
@@ -40,8 +43,18 @@ def faults(text: str, has_folders: bool, has_runtime: bool) -> Iterator[Tuple[st
                 yield RUNTIME, "there is no runtime in a step of a workflow"
             elif name not in OF_RUNTIME or name != "cores" and not has_folders:
                 yield RUNTIME + name, f"this runner has no runtime.{name} here"
+        elif symbol in ("inputs", "self") and INNER.search(segments, 1 if symbol == "inputs" else 0):
+            yield JAVASCRIPT, f"only JavaScript finds something in a text or a number: {shown(text)}"
         elif not has_folders and PLACE.search(segments):
             yield PATH, f"a path, dirname or location is known in a command alone: {shown(text)}"
+
+
+def lengths(text: str) -> Iterator[str]:
+    """Yields what a text asks the length of as a whole: the name of an input, or `self`, which only a list has for the runner."""
+    for symbol, segments in references(text) if has_expression(text) else ():
+        whole = LENGTH.fullmatch(segments)
+        if whole and (symbol == "inputs" and whole[1] or symbol == "self" and not whole[1]):
+            yield whole[1].strip(".[]'\"") if symbol == "inputs" else symbol
 
 
 def shown(text: str) -> str:

@@ -20,18 +20,7 @@ DOCUMENTS = os.path.join(HERE, "tests", "laboratory")
 FRONT = os.path.join(TOP, "front", "deparohi")
 ASKED = "requirements:\n  InlineJavascriptRequirement: {}\n"
 # Stands for an engine: it keeps its words, drops its own options and runs the command.
-ENGINE = """#!/bin/sh
-printf '%s\\n' "$@" > WORDS
-while :; do
-    case $1 in
-    run | exec | --rm | -i | --contain | --cleanenv | --no-home) shift ;;
-    --*) shift 2 ;;
-    *) break ;;
-    esac
-done
-shift
-exec "$@"
-"""
+ENGINE = os.path.join(DOCUMENTS, "engine")
 
 
 @unittest.skipUnless(node.is_there() and program(), "no node, or no program deparohi")
@@ -90,7 +79,8 @@ class Laboratory(InFolder):
         self.write("f.txt", "x")
         for engine in ("docker", "podman", "apptainer"):
             with self.subTest(engine):
-                os.chmod(self.write(f"bin/{engine}", ENGINE.replace("WORDS", f"{self.path}/words")), 0o755)
+                with open(ENGINE, encoding="utf-8") as it:
+                    os.chmod(self.write(f"bin/{engine}", it.read().replace("/dev/null", f"{self.path}/words")), 0o755)
                 made = self.given(text, "f: {class: File, path: f.txt}\n", "--container", engine, PATH=f"{self.path}/bin:{os.environ['PATH']}")
                 self.assertTrue(made["o"]["text"].endswith("in/0/f.txt\n"))
                 with open(f"{self.path}/words", encoding="utf-8") as it:
