@@ -220,7 +220,9 @@ class InJob:
     # ---- what would give another value
 
     def check_texts(self) -> None:
-        for node, key, text in texts_below(self.raw):
+        for node, key, whole in texts_below(self.raw):
+            # A backslash keeps what follows it from being evaluated, and in JavaScript begins no name.
+            text = re.sub(r"\\.", "", whole, flags=re.S)
             if self.scope.library is None and is_javascript(text):
                 self.refuse(node, key, "JavaScript", "this runner takes references to parameters and no JavaScript, and InlineJavascriptRequirement isn't required")
             if re.search(r"\$\((inputs|self)[^()\s]*\.format\)", text):
