@@ -6,7 +6,7 @@ use Rattle.std.proofs.lemmas.List.Elements.{filter_map-append}
 use Rattle.std.proofs.lemmas.List.Folds.{list_all-append}
 use Rattle.document_links.specs.declared.process.Process.{Process}
 use Rattle.job_graph.specs.Words.{Fields}
-use Rattle.job_rows.specs.Map.{RowMap}
+use Rattle.job_rows.specs.Map.{RowMap, Change, changed_by_all}
 use Rattle.proc_host.specs.declared.call.Entry.{Entry}
 use Rattle.run_rules.specs.PlannedFirst.{are_looks, is_look}
 use Rattle.run_rules.specs.Recorded.{Line, command_entry, lines_of}
@@ -17,7 +17,7 @@ use Rattle.run_rules.specs.declared.request.RecordAnswer.{RecordAnswer}
 use Rattle.run_rules.specs.declared.request.RecordRequest.{RecordRequest}
 use Rattle.run_rules.specs.declared.request.Request.{Request}
 use Rattle.run_rules.specs.declared.setting.Options.{Options}
-use Rattle.workflow_engine.specs.ByMap.{ArePairsBy, IsPairBy, KeepsToMap}
+use Rattle.workflow_engine.specs.ByMap.{ArePairsBy, IsPairBy, KeepsToMap, change_by, changes_of}
 use Rattle.workflow_engine.specs.FirstPlan.{PlansByMap}
 use Rattle.workflow_engine.specs.declared.planned.PlanFault.{PlanFault}
 use Rattle.workflow_engine.specs.declared.planned.Planned.{Planned}
@@ -27,21 +27,24 @@ use Rattle.workflow_engine.proofs.ByMap.{kept_on}
 
 -- ---- looks leave the map
 
-stays_one : (request : Request) (answer : Answer) (Then : RowMap → Type 0) (map : RowMap) → is_look request ≡ true → IsPairBy request answer Then map → Then map
-stays_one (Request.Record place (RecordRequest.Find key)) (Answer.Record (RecordAnswer.Found row)) Then map look by_map = by_map.1
-stays_one (Request.Record place (RecordRequest.Find key)) (Answer.Record (RecordAnswer.Refused refusal)) Then map look by_map = by_map.1
-stays_one (Request.Record place (RecordRequest.Find key)) (Answer.Record RecordAnswer.Done) Then map look by_map = absurd by_map
-stays_one (Request.Record place (RecordRequest.Find key)) (Answer.Host answer) Then map look by_map = by_map
-stays_one (Request.Record place (RecordRequest.Put row)) answer Then map look by_map = absurd cc
-stays_one (Request.Record place (RecordRequest.DropArchive key)) answer Then map look by_map = absurd cc
-stays_one (Request.Host place request) answer Then map look by_map = by_map
-stays_one Request.Finished answer Then map look by_map = absurd cc
+changes_none : (request : Request) (answer : Answer) → is_look request ≡ true → change_by request answer ≡ None
+changes_none (Request.Record place (RecordRequest.Find key)) (Answer.Record (RecordAnswer.Found row)) look = refl
+changes_none (Request.Record place (RecordRequest.Find key)) (Answer.Record (RecordAnswer.Refused refusal)) look = refl
+changes_none (Request.Record place (RecordRequest.Find key)) (Answer.Record RecordAnswer.Done) look = refl
+changes_none (Request.Record place (RecordRequest.Find key)) (Answer.Host answer) look = refl
+changes_none (Request.Record place (RecordRequest.Put row)) answer look = absurd cc
+changes_none (Request.Record place (RecordRequest.DropArchive key)) answer look = absurd cc
+changes_none (Request.Host place request) answer look = refl
+changes_none Request.Finished answer look = refl
 
-stays_all : (t : List Pair) (Then : RowMap → Type 0) (map : RowMap) → are_looks t ≡ true → ArePairsBy t Then map → Then map
-stays_all [] Then map looks by_map = by_map
-stays_all (pair ∷ t) Then map looks by_map =
+no_changes : (t : List Pair) → are_looks t ≡ true → changes_of t ≡ []
+no_changes [] looks = refl
+no_changes (pair ∷ t) looks =
     let both = and_parts (is_look pair.request) (are_looks t) looks in
-    stays_all t Then map both.1 (stays_one pair.request pair.answer (ArePairsBy t Then) map both.0 by_map)
+    rw (changes_none pair.request pair.answer both.0) (no_changes t both.1)
+
+stays_all : (t : List Pair) (holds : RowMap → Type 0) (map : RowMap) → are_looks t ≡ true → holds (changed_by_all (changes_of t) map) → holds map
+stays_all t holds map looks held = subst (λ (changes : List Change). holds (changed_by_all changes map)) (no_changes t looks) held
 
 -- ---- what is asked of the host
 
@@ -56,19 +59,34 @@ no_lines (pair ∷ t) hosts =
     let both = and_parts (asks_host pair.request) (list_all (λ (p : Pair). asks_host p.request) t) hosts in
     rw (no_line pair.request pair.answer both.0) (no_lines t both.1)
 
-leaves_one : (request : Request) (answer : Answer) (Then : RowMap → Type 0) (map : RowMap) → asks_host request ≡ true → Then map → IsPairBy request answer Then map
-leaves_one (Request.Host place request) answer Then map hosts then = then
-leaves_one (Request.Record place request) answer Then map hosts then = absurd cc
-leaves_one Request.Finished answer Then map hosts then = absurd cc
+by_one : (request : Request) (answer : Answer) (map : RowMap) → asks_host request ≡ true → IsPairBy map request answer
+by_one (Request.Host place request) answer map hosts = tt
+by_one (Request.Record place request) answer map hosts = absurd cc
+by_one Request.Finished answer map hosts = absurd cc
 
-leaves_all : (t : List Pair) (Then : RowMap → Type 0) (map : RowMap) → list_all (λ (pair : Pair). asks_host pair.request) t ≡ true → Then map → ArePairsBy t Then map
-leaves_all [] Then map hosts then = then
-leaves_all (pair ∷ t) Then map hosts then =
+no_change : (request : Request) (answer : Answer) → asks_host request ≡ true → change_by request answer ≡ None
+no_change (Request.Host place request) answer hosts = refl
+no_change (Request.Record place request) answer hosts = absurd cc
+no_change Request.Finished answer hosts = absurd cc
+
+by_all : (t : List Pair) (map : RowMap) → list_all (λ (pair : Pair). asks_host pair.request) t ≡ true → ArePairsBy map t
+by_all [] map hosts = tt
+by_all (pair ∷ t) map hosts =
     let both = and_parts (asks_host pair.request) (list_all (λ (p : Pair). asks_host p.request) t) hosts in
-    leaves_one pair.request pair.answer (ArePairsBy t Then) map both.0 (leaves_all t Then map both.1 then)
+    (by_one pair.request pair.answer map both.0, by_all t (changed_by_all (changes_of (pair ∷ [])) map) both.1)
+
+leaves_all : (t : List Pair) → list_all (λ (pair : Pair). asks_host pair.request) t ≡ true → changes_of t ≡ []
+leaves_all [] hosts = refl
+leaves_all (pair ∷ t) hosts =
+    let both = and_parts (asks_host pair.request) (list_all (λ (p : Pair). asks_host p.request) t) hosts in
+    rw (no_change pair.request pair.answer both.0) (leaves_all t both.1)
 
 kept_by_hosts : (sound : Type 0) (holds : RowMap → Type 0) (t : List Pair) → list_all (λ (pair : Pair). asks_host pair.request) t ≡ true → KeepsToMap sound sound holds holds t
-kept_by_hosts sound holds t hosts = record { sound = λ h. h; by_map = λ h map held. leaves_all t holds map hosts held }
+kept_by_hosts sound holds t hosts = record {
+  sound = λ h. h;
+  answers = λ h map held. by_all t map hosts;
+  by_map = λ h map held. subst (λ (changes : List Change). holds (changed_by_all changes map)) (sym (leaves_all t hosts)) held;
+}
 
 -- ---- both
 

@@ -8,8 +8,8 @@ use Rattle.proc_host.specs.declared.call.HostFault.{HostFault}
 use Rattle.proc_host.specs.Log.{failures, is_failure}
 use Rattle.run_rules.specs.declared.outcome.Report.{Report}
 use Rattle.run_rules.specs.declared.outcome.RunFault.{RunFault}
-use Rattle.run_rules.specs.Blame.{logged_answers, BlamesRightly}
-use Rattle.workflow_engine.specs.Blame.{IsHostsFault}
+use Rattle.run_rules.specs.Blame.{Rise, given_tickets, logged_answers, BlamesRightly}
+use Rattle.workflow_engine.specs.Blame.{HasRisingTickets, IsHostsFault}
 
 failures-append : (before gained : List Entry) → failures (before ++ gained) ≡ failures before + failures gained
 failures-append before gained = sum_by-append (λ (entry : Entry). cond (is_failure entry.answer) 1 0) before gained
@@ -38,3 +38,12 @@ hosts_fault before after gained (Err (RunFault.Host fault running)) logged blame
   risen = omega (arith, ap failures logged, failures-append before gained, some_failed gained fault blames.failed);
   to_blame = blames;
 }
+
+-- and the tickets that it names rise, as those that were given do
+pub named_rise : (gained : List Entry) (result : Result Report RunFault) → Rise (given_tickets gained) → IfErr result (BlamesRightly gained) → IfErr result HasRisingTickets
+named_rise gained (Ok report) rising blames = tt
+named_rise gained (Err (RunFault.Record refusal)) rising blames = tt
+named_rise gained (Err (RunFault.Mismatch place)) rising blames = tt
+named_rise gained (Err RunFault.TooManyJobs) rising blames = tt
+named_rise gained (Err RunFault.OutOfMemory) rising blames = tt
+named_rise gained (Err (RunFault.Host fault running)) rising blames = blames.started.rising rising

@@ -12,7 +12,7 @@ use Rattle.job_rows.specs.declared.refusal.RecordRefusal.TheVariants.{NotARecord
 use Rattle.job_rows.specs.declared.row.Row.{Row}
 use Rattle.proc_host.specs.declared.call.HostRequest.{HostRequest}
 use Rattle.run_rules.specs.Steps.{command}
-use Rattle.run_rules.proofs.TranscriptTells.{only_in}
+use Rattle.run_rules.proofs.TranscriptTells.{none_in, only_in}
 use Rattle.run_rules.specs.declared.request.Answer.{Answer}
 use Rattle.run_rules.specs.declared.request.Pair.{Pair}
 use Rattle.run_rules.specs.declared.request.RecordAnswer.{RecordAnswer}
@@ -106,46 +106,57 @@ kept_on first second third has had holds t more all one two is =
 -- ---- rows that are to be put
 
 pub no_put : (P : Fields → Type 0) (t : List Pair) → t ≡ [] → ArePut P t
-no_put P t none place row answer there = let among : Contains [] (command place (Put row) answer) = subst (λ (ps : List Pair). Contains ps (command place (Put row) answer)) none there in
-    absurd (omega (arith, among.1))
+no_put P t none = record {
+  each = λ place row answer there. absurd (none_in (command place (Put row) answer) (subst (λ (ps : List Pair). Contains ps (command place (Put row) answer)) none there));
+}
 
 pub put_more : (P : Fields → Type 0) (t more all : List Pair) → ArePut P t → ArePut P more → all ≡ t ++ more → ArePut P all
-put_more P t more all one two is place row answer there =
-    elim (Contains-append_cases t more (command place (Put row) answer) (subst (λ (ps : List Pair). Contains ps (command place (Put row) answer)) is there)) [
-      | inl before ↦ one place row answer before
-      | inr now ↦ two place row answer now
-    ]
+put_more P t more all one two is = record {
+  each = λ place row answer there.
+      elim (Contains-append_cases t more (command place (Put row) answer) (subst (λ (ps : List Pair). Contains ps (command place (Put row) answer)) is there)) [
+        | inl before ↦ one.each place row answer before
+        | inr now ↦ two.each place row answer now
+      ];
+}
 
 -- the row of a command
 is_put : (P : Fields → Type 0) (place : JobPlace) (request : RecordRequest) (answer : RecordAnswer) → ArePut P (command place request answer ∷ []) → IsPut P request
 is_put P place (Find key) answer all = tt
-is_put P place (Put row) answer all = all place row answer (zero, omega arith, refl)
+is_put P place (Put row) answer all = all.each place row answer (zero, omega arith, refl)
 is_put P place (DropArchive key) answer all = tt
 
 pub put_by_record : (P : Fields → Type 0) (place : JobPlace) (request : RecordRequest) (answer : RecordAnswer) → IsPut P request →
     ArePut P (pairs_by (Request.Record place request) (Ok (Answer.Record answer)))
-put_by_record P place request answer put p row told there =
-    let same : command place request answer ≡ command p (Put row) told = only_in (command place request answer) (command p (Put row) told) there in
-    let its : request ≡ Put row = cc in subst (IsPut P) its put
+put_by_record P place request answer put = record {
+  each = λ p row told there.
+      let same : Request.Record place request ≡ Request.Record p (Put row) = ap (λ (pair : Pair). pair.request) (only_in (command place request answer) (command p (Put row) told) there) in
+      let its : request ≡ Put row = cc in subst (IsPut P) its put;
+}
 
 pub put_by_host : (P : Fields → Type 0) (place : JobPlace) (request : HostRequest) (told : Result Answer AllocError) → ArePut P (pairs_by (Request.Host place request) told)
-put_by_host P place request (Err error) p row answer there = no_put P [] refl p row answer there
-put_by_host P place request (Ok answer) p row told there =
-    let same : record { request = Request.Host place request; answer = answer } ≡ command p (Put row) told = only_in (record { request = Request.Host place request; answer = answer }) (command p (Put row) told) there in
-    absurd cc
+put_by_host P place request (Err error) = no_put P [] refl
+put_by_host P place request (Ok answer) = record {
+  each = λ p row told there.
+      let same : Request.Host place request ≡ Request.Record p (Put row) =
+      ap (λ (pair : Pair). pair.request) (only_in (record { request = Request.Host place request; answer = answer }) (command p (Put row) told) there) in
+      absurd cc;
+}
 
--- ---- a record that keeps to its map where rows are such as are read back
+-- ---- a record that keeps to its map if rows are such as are read back
 
 pub if_read_by_record : (before after : Type 0) (held holds : RowMap → Type 0) (place : JobPlace) (request : RecordRequest) (answer : RecordAnswer) → (after → before) →
     (after → (map : RowMap) → held map → IsToldBy map request (Ok answer) holds) →
     KeepsToMapIfRead before after held holds (pairs_by (Request.Record place request) (Ok (Answer.Record answer)))
-if_read_by_record before after held holds place request answer sound by_map read =
-    kept_by_record before after held holds place request answer sound by_map (is_put IsKept place request answer read)
+if_read_by_record before after held holds place request answer sound by_map = record {
+  keeps = λ read. kept_by_record before after held holds place request answer sound by_map (is_put IsKept place request answer read);
+}
 
 pub if_read_on : (first second third : Type 0) (has had holds : RowMap → Type 0) (t more all : List Pair) → KeepsToMapIfRead first second has had t → KeepsToMapIfRead second third had holds more →
     all ≡ t ++ more → KeepsToMapIfRead first third has holds all
-if_read_on first second third has had holds t more all one two is read =
-    let puts : ArePut IsKept (t ++ more) = subst (ArePut IsKept) is read in
-    kept_on first second third has had holds t more all
-    (one (λ place row answer there. puts place row answer (Contains-append_left t more _ there)))
-    (two (λ place row answer there. puts place row answer (Contains-append_right t more _ there))) is
+if_read_on first second third has had holds t more all one two is = record {
+  keeps = λ read.
+      let puts : ArePut IsKept (t ++ more) = subst (ArePut IsKept) is read in
+      kept_on first second third has had holds t more all
+      (one.keeps (record { each = λ place row answer there. puts.each place row answer (Contains-append_left t more (command place (Put row) answer) there) }))
+      (two.keeps (record { each = λ place row answer there. puts.each place row answer (Contains-append_right t more (command place (Put row) answer) there) })) is;
+}

@@ -34,7 +34,7 @@ module _ (running : List ℕ) (request : HostRequest) where
       IfOk result (CanAnswer running request)
   answer_told answer r result is can own = subst Told (sym is) (by_result answer r can own)
 
-  -- so it is where each is such a one
+  -- also if it can be one only of what the call promises
   pub such_told : {T : Type 0} (IsSuch : T → Type 0) (answer : T → HostAnswer) (r : Result T HostError) (result : Result HostAnswer AllocError) →
       result ≡ answered (answer_behind answer r) → IfOk r IsSuch → ((x : T) → IsSuch x → CanAnswer running request (answer x)) → FailsOnlyBy (fault_of request) r →
       IfOk result (CanAnswer running request)

@@ -121,19 +121,19 @@ module _ (before : List Line) (sound : Type 0) (held : RowMap → Type 0) where
 
   module _ (after : List Line) (sound_after : Type 0) (holds : RowMap → Type 0) (job : Job) (steady : sound_after → sound) where
     pub one_asked : {What : List Pair → Type 0} (answer : RecordAnswer) → after ≡ before ++ lines_by (RecordRequest.Find (key job.tool job.inputs)) (Ok answer) →
-        (sound_after → (map : RowMap) → held map → IsToldBy (RecordRequest.Find (key job.tool job.inputs)) (Ok answer) holds map) → What (find_of job answer ∷ []) →
+        (sound_after → (map : RowMap) → held map → IsToldBy map (RecordRequest.Find (key job.tool job.inputs)) (Ok answer) holds) → What (find_of job answer ∷ []) →
         AsksRecord before after sound sound_after held holds What
     one_asked answer logged by_map what = record {
       asked = find_of job answer ∷ [];
       looks = refl;
       logged = logged;
       unhosted = refl;
-      by_map = kept_by_record sound sound_after held holds job.place (RecordRequest.Find (key job.tool job.inputs)) answer steady by_map;
+      by_map = kept_by_record sound sound_after held holds job.place (RecordRequest.Find (key job.tool job.inputs)) answer steady by_map tt;
       what = what;
     }
 
     pub none_asked : {What : List Pair → Type 0} (error : AllocError) → after ≡ before ++ lines_by (RecordRequest.Find (key job.tool job.inputs)) (Err error) →
-        (sound_after → (map : RowMap) → held map → IsToldBy (RecordRequest.Find (key job.tool job.inputs)) (Err error) holds map) → What [] →
+        (sound_after → (map : RowMap) → held map → IsToldBy map (RecordRequest.Find (key job.tool job.inputs)) (Err error) holds) → What [] →
         AsksRecord before after sound sound_after held holds What
     none_asked error logged by_map what = record {
       asked = [];

@@ -52,12 +52,16 @@ no_wait (pair ∷ waits) place row answer are (zero, within, is) =
 no_wait (pair ∷ waits) place row answer are (suc k, within, is) = no_wait waits place row answer are.1 (k, omega (arith, within), is)
 
 pub puts_read : (setting : Setting) (t : List Pair) (result : Result Report RunFault) → Concludes setting t result → AreAnswers t → ArePut AreInForm t → ArePut IsKept t
-puts_read setting t _ (lost front waits f plans goes are_waits is) answers form place row answer there =
-    elim (Contains-append_cases front waits (command place (Put row) answer) (subst (λ (ps : List Pair). Contains ps (command place (Put row) answer)) is there)) [
-      | inl before ↦
-        let still : AreAnswers front = λ pair its. answers pair (subst (λ (ps : List Pair). Contains ps pair) (sym is) (Contains-append_left front waits pair its)) in
-        kept_by are_kept row.outputs (put_collected (scene_of setting) _ goes still place row (Answer.Record answer) before) (form place row answer there)
-      | inr after ↦ absurd (no_wait waits place row answer are_waits after)
-    ]
-puts_read setting t _ (whole end run right) answers form place row answer there =
-    kept_by are_kept row.outputs (put_collected (scene_of setting) _ run.goes answers place row (Answer.Record answer) there) (form place row answer there)
+puts_read setting t _ (lost front waits f plans goes are_waits is) answers form = record {
+  each = λ place row answer there.
+      elim (Contains-append_cases front waits (command place (Put row) answer) (subst (λ (ps : List Pair). Contains ps (command place (Put row) answer)) is there)) [
+        | inl before ↦
+            let still : AreAnswers front = λ pair its. answers pair (subst (λ (ps : List Pair). Contains ps pair) (sym is) (Contains-append_left front waits pair its)) in
+            kept_by are_kept row.outputs (put_collected (scene_of setting) _ goes still place row (Answer.Record answer) before) (form.each place row answer there)
+        | inr after ↦ absurd (no_wait waits place row answer are_waits after)
+      ];
+}
+puts_read setting t _ (whole end run right) answers form = record {
+  each = λ place row answer there.
+      kept_by are_kept row.outputs (put_collected (scene_of setting) _ run.goes answers place row (Answer.Record answer) there) (form.each place row answer there);
+}

@@ -30,17 +30,18 @@ IsAnswerBy map (DropArchive key) (Refused NoRow) = map key ≡ None
 IsAnswerBy map (DropArchive key) (Refused Store) = Unit {0}
 IsAnswerBy map request answer = ⊥
 
--- what a command changes, where it was done
+-- what a command changes, if it was done
 abbrev pub change_of : RecordRequest → RecordAnswer → Option Change
 change_of (Put row) Done = Some (sets row)
 change_of (DropArchive key) Done = Some (unarchives key)
 change_of request answer = None
 
--- what the host is asked leaves the map as it is
+-- the host's answers are by no map
 abbrev pub IsPairBy : RowMap → Request → Answer → Type 0
 IsPairBy map (Request.Record place request) (Answer.Record answer) = IsAnswerBy map request answer
 IsPairBy map request answer = Unit {0}
 
+-- and change no row
 abbrev pub change_by : Request → Answer → Option Change
 change_by (Request.Record place request) (Answer.Record answer) = change_of request answer
 change_by request answer = None
@@ -54,7 +55,7 @@ abbrev pub ArePairsBy : RowMap → List Pair → Type 0
 ArePairsBy map [] = Unit {0}
 ArePairsBy map (pair ∷ more) = IsPairBy map pair.request pair.answer × ArePairsBy (changed_by_all (changes_of (pair ∷ [])) map) more
 
--- Where what a record is kept on has returned until after these pairs what was written to it, it had before them; and of each map that the
+-- If what a record is kept on has returned until after these pairs what was written to it, it had before them; and of each map that the
 -- record held then, the answers are by the map, and the record now holds what the commands that were done made of it.
 pub record KeepsToMap (sound_before sound_after : Type 0) (held holds : RowMap → Type 0) (t : List Pair) : Type 0 where
   pub sound : sound_after → sound_before

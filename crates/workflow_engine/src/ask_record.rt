@@ -26,7 +26,7 @@ pub(crate) fn ask_record<R: Record>(
     match request {
         RecordRequest::Find(key) => found(rows.find(key)),
         RecordRequest::Put(row) => {
-            // What the types of values say reaches contracts where the values are looked at.
+            // What the types of values say reaches contracts once the values are looked at.
             in_form(&row.outputs);
             done(rows.put(row))
         }

@@ -37,7 +37,7 @@ use std::mem;
 /// The record is asked for the row of each job whose tool lets an earlier result be used, and to keep the row of each that was
 /// computed. As long as what it is kept on returns what was written, each of its answers is by its map, and the map at the end is
 /// that of the start after the commands that were done, with no condition on rows: each that a run puts is read back
-/// (`run_rules::rows_put_are_kept`). Where a fault of the record is a row that it gave, that row isn't one of its
+/// (`run_rules::rows_put_are_kept`). If a fault of the record is a row that it gave, that row isn't one of its
 /// job's tool (`run_rules::faults_came_of_answers`).
 ///
 /// The tickets of its children rise, so no place is started more often than once and its retries

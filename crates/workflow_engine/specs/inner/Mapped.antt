@@ -21,7 +21,7 @@ abbrev pub IsPut : (Fields → Type 0) → RecordRequest → Type 0
 IsPut P (Put row) = P row.outputs
 IsPut P request = Unit {0}
 
--- an answer is by the map, and the record then holds what the command made of it, where a row that is put is such as is read back; a command that
+-- an answer is by the map, and the record then holds what the command made of it, if a row that is put is such as is read back; a command that
 -- ran out of memory leaves the map as it is
 abbrev pub IsToldBy : RowMap → RecordRequest → Result RecordAnswer AllocError → (Holds : RowMap → Type 0) → Type 0
 IsToldBy map request (Ok answer) Holds =
@@ -34,9 +34,9 @@ pairs_by asks (Ok answer) = record { request = asks; answer = answer } ∷ []
 pairs_by asks (Err error) = []
 
 -- the outputs of each row that was to be put
-abbrev pub ArePut : (Fields → Type 0) → List Pair → Type 0
-ArePut P t = (place : JobPlace) (row : Row) (answer : RecordAnswer) → Contains t (command place (Put row) answer) → P row.outputs
+pub record ArePut (P : Fields → Type 0) (t : List Pair) : Type 0 where
+  pub each : (place : JobPlace) (row : Row) (answer : RecordAnswer) → Contains t (command place (Put row) answer) → P row.outputs
 
--- where they are such as a record reads back, it keeps to its map
-abbrev pub KeepsToMapIfRead : (sound_before sound_after : Type 0) (held holds : RowMap → Type 0) (t : List Pair) → Type 0
-KeepsToMapIfRead sound_before sound_after held holds t = ArePut IsKept t → KeepsToMap sound_before sound_after held holds t
+-- if they are such as a record reads back, it keeps to its map
+pub record KeepsToMapIfRead (sound_before sound_after : Type 0) (held holds : RowMap → Type 0) (t : List Pair) : Type 0 where
+  pub keeps : ArePut IsKept t → KeepsToMap sound_before sound_after held holds t

@@ -24,3 +24,6 @@ pub returns-in-DropArchive-clause-by_map : goal.returns-in-DropArchive-clause-by
 returns-in-DropArchive-clause-by_map g c sound map held =
     rw (c.in-DropArchive.is, c.done-in-DropArchive.ensures)
     (drop_by (g.R.Record.holds c.drop_archive.new.self) map c.in-DropArchive.key c.drop_archive.result (c.drop_archive.ensures.drops sound map held))
+
+pub returns-in-Put-clause-form : goal.returns-in-Put-clause-form
+returns-in-Put-clause-form g c = rw c.in-Put.is c.in_form.ensures

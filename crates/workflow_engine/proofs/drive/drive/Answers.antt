@@ -17,7 +17,7 @@ loop-host-init g c = record {
   setting = refl;
   logged = rw c.requires.first (sym (append-nil _));
   recorded = rw c.requires.first (sym (append-nil _));
-  by_map = λ read. nothing_kept _ _ _ c.requires.first;
+  by_map = record { keeps = λ read. nothing_kept _ _ _ c.requires.first };
   answers = no_answer _ c.requires.first;
   form = no_put AreInForm _ c.requires.first;
   flying = λ going. c.requires.flying;

@@ -4,7 +4,7 @@ use Rattle.run_rules.specs.Reports.{Concludes, entries_of}
 use Rattle.run_rules.specs.declared.outcome.RunFault.{RunFault}
 use Rattle.run_rules.specs.declared.setting.Setting.{Setting}
 use Rattle.workflow_engine.proofs.Nothing.{nothing_asked, err_is}
-use Rattle.workflow_engine.proofs.Blamed.{hosts_fault}
+use Rattle.workflow_engine.proofs.Blamed.{hosts_fault, named_rise}
 use Rattle.workflow_engine.proofs.Recorded.{blames_record}
 use Rattle.workflow_engine.proofs.ByMap.{nothing_kept}
 use Rattle.workflow_engine.proofs.Numbered.{none_numbered}
@@ -54,7 +54,7 @@ returns-clause-run g c =
           concluded = concluded;
         };
       };
-      map = c.drive.ensures.by_map (puts_read _ t c.finish.result concluded c.drive.ensures.answers c.drive.ensures.form);
+      map = c.drive.ensures.by_map.keeps (puts_read _ t c.finish.result concluded c.drive.ensures.answers c.drive.ensures.form);
     }
 
 pub returns-clause-fault : goal.returns-clause-fault
@@ -69,3 +69,6 @@ pub returns-clause-record : goal.returns-clause-record
 returns-clause-record g c =
     let ran = returns-clause-run g c in
     blames_record _ _ _ _ _ _ _ _ ran.run.recorded ran.run.run
+
+pub returns-clause-rising : goal.returns-clause-rising
+returns-clause-rising g c = named_rise (entries_of c.drive.new.core.transcript) c.finish.result c.drive.ensures.numbered.rising c.finish.ensures.faults
