@@ -5,21 +5,20 @@ use Rattle.std.proofs.lemmas.Bool.{cases_Bool}
 use Rattle.sqlite.specs.Store.{Ghosts}
 use Rattle.sqlite.specs.Order.{Row as Columns}
 use Rattle.sqlite.specs.Schema.{Schema}
-use Rattle.sqlite.specs.Effect.{Database}
+use Rattle.sqlite.specs.Effect.{Database, IsDatabase}
 use Rattle.sqlite.specs.Listing.{understood, listing_schema}
-use Rattle.sqlite.specs.State.{State, HasCleanDisk, IsUnchanged, QueriesRow}
+use Rattle.sqlite.specs.Clock.{timed}
+use Rattle.sqlite.specs.State.{State, HasCleanDisk, IsUnchanged, ShowsRows, Shown, QueriesRow}
 use Rattle.sqlite.specs.Held.{Held, state}
 use Rattle.sqlite.proofs.Callers.{IsPlain, unchanged_then}
 use Rattle.sqlite_tied.specs.Compute.{everything}
 use Rattle.sqlite_trees.specs.View.{doubt}
 use Rattle.job_rows.specs.Map.{RowMap}
 use Rattle.job_record.specs.Tables.{no_schema, record_schema}
-use Rattle.job_record.specs.Map.{held, held_in, IsRecord}
+use Rattle.job_record.specs.Map.{held, held_in, IsKeyed, IsRecord}
 use Rattle.job_record.specs.Opening.{IsReady, Opens}
 use Rattle.job_record.specs.OpenMap.{IsBlank, OpensAs}
 use Rattle.job_record.specs.Rows.{AreKeptAs, IsMapOf, OpensWithRows}
-use Rattle.job_record.proofs.MapSteps.{same_shows}
-use Rattle.job_record.proofs.Reading.{row_same}
 use Rattle.record_program.specs.Views.{views_text}
 use Rattle.record_program.specs.inner.Looked.{Spares}
 
@@ -35,9 +34,31 @@ plain_at : (s : State) → IsBlank s ⊎ IsRecord s → IsPlain (understood s.no
 plain_at s (inl blank) = subst (λ (t : Schema). IsPlain (understood t views_text)) (sym blank.schema) blank_plain
 plain_at s (inr it) = subst (λ (t : Schema). IsPlain (understood t views_text)) (sym it.schema) record_plain
 
+-- such a query changes nothing
+module _ (old new : State) (plain : IsPlain (understood old.now.schema views_text)) where
+  shown_same : (rows : List Columns) → Shown views_text [] old new rows → IsUnchanged old new
+  unfolding Shown
+  shown_same rows h =
+      let none = (subst IsPlain h.1.is plain).0 in
+      (subst (ShowsRows old new views_text h.0 (timed [] h.0.formats h.1.now) rows) none h.2).3
+
+  row_same : (row : Columns) → QueriesRow views_text [] old new (Ok row) → IsUnchanged old new
+  unfolding QueriesRow
+  row_same row (inl h) = h.1
+  row_same row (inr h) = shown_same h.0 h.1
+
 module _ (old new : State) where
   pub looked : (c : Columns) → QueriesRow views_text [] old new (Ok c) → IsBlank old ⊎ IsRecord old → IsUnchanged old new
-  looked c asked fits = row_same views_text [] old new (plain_at old fits) c asked
+  looked c asked fits = row_same old new (plain_at old fits) c asked
+
+  still_record : IsUnchanged old new → IsRecord old → IsRecord new
+  still_record u it = record {
+    schema = ap (λ (d : Database). d.schema) u.0.now_is ∙ it.schema;
+    sound = subst IsDatabase (sym u.0.now_is) it.sound;
+    keyed = subst (λ (d : Database). IsKeyed (d.trees 2)) (sym u.0.now_is) it.keyed;
+    settled = u.0.committed_is ∙ it.settled ∙ sym u.0.now_is;
+    autocommit = u.0.mode ∙ it.autocommit;
+  }
 
   still_blank : IsUnchanged old new → IsBlank old → IsBlank new
   still_blank u b = record {
@@ -55,14 +76,14 @@ module _ (old mid new : State) (spares : IsBlank old ⊎ IsRecord old → IsUnch
     made = λ blank. opens.made (still_blank old mid (spares (inl blank)) blank);
     taken = λ it.
         let u = spares (inr it) in
-        let later = opens.taken (same_shows old mid it u).1 in
+        let later = opens.taken (still_record old mid u it) in
         (unchanged_then old mid new u later.0, later.1);
   }
 
   opens_with : OpensWithRows mid new → OpensWithRows old new
   opens_with opens = record {
     made = λ blank. opens.made (still_blank old mid (spares (inl blank)) blank);
-    taken = λ it map are. let u = spares (inr it) in opens.taken (same_shows old mid it u).1 map (same_map old mid u map are);
+    taken = λ it map are. let u = spares (inr it) in opens.taken (still_record old mid u it) map (same_map old mid u map are);
   }
 
 -- a connection that is opened as a record was open
