@@ -109,8 +109,9 @@ pub fn main_run<R: World + Env + Input + Records, O: Write, E: Write>(
 ) -> u8
 where
     R::File: Into<Stdio>,
-    ensures { Tells R.Records R.Kept.Record rt.now (map (λ word. string_bytes word) words.now) path.now (O.contents out.old)
-        (O.contents out.new) (E.contents err.old) (E.contents err.new) result }
+    ensures { Tells R.Records R.Kept.Record rt.now (map (λ word. string_bytes word) words.now)
+        path.now (O.contents out.old) (O.contents out.new) (E.contents err.old)
+        (E.contents err.new) result }
 {
     match end_of(rt, words, path, err) {
         Ok(end) => {
@@ -189,7 +190,8 @@ fn end_of<R: World + Env + Input + Records, E: Write>(
 ) -> Result<End, Error>
 where
     R::File: Into<Stdio>,
-    ensures ok { IfOk result (λ end. LeadsTo R.Records R.Kept.Record rt.now (map (λ word. string_bytes word) words.now) path.now
+    ensures ok { IfOk result (λ end. LeadsTo R.Records R.Kept.Record rt.now
+        (map (λ word. string_bytes word) words.now) path.now
         end.run.exit end.run.left end.explains end.telling) }
     ensures told { IfOk result (λ end. IsRunTold end.telling (E.contents err.old)
         (E.contents err.new)) }
@@ -222,7 +224,8 @@ fn end_of_choice<R: World + Env + Input + Records, E: Write>(
 ) -> Result<RunEnd, AllocError>
 where
     R::File: Into<Stdio>,
-    ensures end { IfOk result (λ end. IsEndOf R.Records R.Kept.Record rt.now path.now choice.now end.exit end.left) }
+    ensures end { IfOk result (λ end. IsEndOf R.Records R.Kept.Record rt.now path.now choice.now
+        end.exit end.left) }
     ensures told { IsRunTold (telling_of choice.now) (E.contents err.old) (E.contents err.new) }
 {
     match choice {
@@ -243,8 +246,8 @@ fn end_of_words<R: World + Env + Input + Records, E: Write>(
 ) -> Result<RunEnd, AllocError>
 where
     R::File: Into<Stdio>,
-    ensures end { IfOk result (λ end. IsEndOfWords R.Records R.Kept.Record rt.now words.now.shows (wish_of_run words.now) path.now
-        end.exit end.left) }
+    ensures end { IfOk result (λ end. IsEndOfWords R.Records R.Kept.Record rt.now words.now.shows
+        (wish_of_run words.now) path.now end.exit end.left) }
     ensures told { IsRunTold words.now.telling (E.contents err.old) (E.contents err.new) }
 {
     match words.shows {
