@@ -97,21 +97,23 @@ module _ {S : Type 0} (g : Ghosts S) where
   ShutIfDirty = (s : S) → (g.view s).is_clean ≡ false → (g.view s).is_open ≡ false
 
   was_clean : ShutIfDirty → (h : Held S) → IsTrue (state g h).is_open → HasCleanDisk (state g h)
+  unfolding doubt
   was_clean shut h open_now = elim (cases_Bool (g.view h.store).is_clean) [
     | inl clean ↦ ap doubt clean
     | inr dirty ↦ absurd (true≢false (sym open_now ∙ shut h.store dirty))
   ]
 
-  module _ {K E : Type 0} (conn_of : K → Held S) (old mid : Held S) (shut : ShutIfDirty) (spares : Spares (state g old) (state g mid)) where
+  module _ (old mid : Held S) (shut : ShutIfDirty) (spares : Spares (state g old) (state g mid)) where
     was_spared : (new : Held S) → Opens g mid new (Ok tt) → IsBlank (state g old) ⊎ IsRecord (state g old) → IsUnchanged (state g old) (state g mid)
     was_spared new opens = (spares (was_clean shut mid (was_open mid new opens))).1
 
+  module _ {K E : Type 0} (conn_of : K → Held S) (old mid : Held S) (shut : ShutIfDirty) (spares : Spares (state g old) (state g mid)) where
     pub opens_first : (r : Result K E) → IfOk r (λ kept. HasCleanDisk (state g (conn_of kept)) → Opens g mid (conn_of kept) (Ok tt)) → IfOk r (λ kept. HasCleanDisk (state g (conn_of kept)) → OpensAs (state g mid) (state g (conn_of kept)))
         → IfOk r (λ kept. HasCleanDisk (state g (conn_of kept)) → OpensAs (state g old) (state g (conn_of kept)))
-    opens_first (Ok kept) opens map = λ clean. opens_as (state g old) (state g mid) (state g (conn_of kept)) (was_spared (conn_of kept) (opens clean)) (map clean)
+    opens_first (Ok kept) opens map = λ clean. opens_as (state g old) (state g mid) (state g (conn_of kept)) (was_spared old mid shut spares (conn_of kept) (opens clean)) (map clean)
     opens_first (Err e) opens map = tt
 
     pub rows_first : (r : Result K E) → IfOk r (λ kept. HasCleanDisk (state g (conn_of kept)) → Opens g mid (conn_of kept) (Ok tt)) → IfOk r (λ kept. HasCleanDisk (state g (conn_of kept)) → OpensWithRows (state g mid) (state g (conn_of kept)))
         → IfOk r (λ kept. HasCleanDisk (state g (conn_of kept)) → OpensWithRows (state g old) (state g (conn_of kept)))
-    rows_first (Ok kept) opens rows = λ clean. opens_with (state g old) (state g mid) (state g (conn_of kept)) (was_spared (conn_of kept) (opens clean)) (rows clean)
+    rows_first (Ok kept) opens rows = λ clean. opens_with (state g old) (state g mid) (state g (conn_of kept)) (was_spared old mid shut spares (conn_of kept) (opens clean)) (rows clean)
     rows_first (Err e) opens rows = tt
