@@ -1,5 +1,5 @@
 //! Commands over any store, and what they are answered.
-ghost use Rattle.std.specs.Prelude.{◌≡◌, ◌++◌};
+ghost use Rattle.std.specs.Prelude.{◌≡◌, ◌++◌, IfOk, IfSome};
 ghost use Rattle.job_rows.specs.declared.log.Command.TheVariants as command;
 ghost use Rattle.job_rows.specs.Log.{entries_of, told_of};
 
@@ -106,8 +106,9 @@ pub(crate) fn found<S: Alter>(
     kept: &mut JobRecord<S>,
     key: &Text,
 ) -> Result<Option<RecordRow>, RecordError>
-    ensures { kept.new.log.items ≡ kept.old.log.items
+    ensures logged { kept.new.log.items ≡ kept.old.log.items
         ++ entries_of command.Find key.now (told_of result) }
+    ensures keyed { IfOk result (λ found. IfSome found (λ row. row.key ≡ key.now)) }
 {
     Record::find(kept, key)
 }
