@@ -4,10 +4,9 @@ from typing import Any, Callable, Dict, List, Optional, Set, Tuple
 
 from .expressions import parameters
 from .findings import Findings
-from .kinds import item_of, kind_of_value, members_of
+from .kinds import are_alike, item_of, kind_of_value, members_of
 from .marked import Fields, Items
 from .names import short, source_name
-from .plans import Evaluator
 from .types import Types
 
 # The process that a step runs, with the types that have names there, or None where it can't be looked at.
@@ -34,6 +33,16 @@ def list_type(kind: Any) -> Dict[str, Any]:
     return {"type": "array", "items": kind}
 
 
+def kinds_of_process(raw: Fields, names: Dict[str, Any], peek: Peek) -> Tuple[Dict[str, Any], Dict[str, Any]]:
+    """Returns the types of a process's inputs and outputs, expanded."""
+    if raw.kinds is None:
+        # What a workflow says stands for itself while it is looked at, as in one that runs itself.
+        raw.kinds = kinds_of(raw.get("inputs"), names), kinds_of(raw.get("outputs"), names)
+        if raw.get("class") == "Workflow":
+            raw.kinds = raw.kinds[0], Flow(raw, names, peek).outputs()
+    return raw.kinds
+
+
 class Flow:
     """The types of one workflow's links."""
 
@@ -48,8 +57,18 @@ class Flow:
         """Returns the types of the inputs and outputs of the process that a step runs."""
         if step not in self.known:
             found = self.peek(self.steps[step], self.names)
-            self.known[step] = found[0].kinds if found and isinstance(found[0], Evaluator) else (kinds_of(found[0].get("inputs"), found[1]), kinds_of(found[0].get("outputs"), found[1])) if found else ({}, {})
+            self.known[step] = ({}, {}) if found is None else kinds_of_process(found[0], found[1], self.peek)
         return self.known[step]
+
+    def outputs(self) -> Dict[str, Any]:
+        """Returns the types of the workflow's outputs: where numbers come in another form than an output says, those of its sources."""
+        kinds = kinds_of(self.raw.get("outputs"), self.names)
+        for name, it in parameters(self.raw.get("outputs")):
+            if isinstance(it, Fields) and "outputSource" in it:
+                brought = self.entry(it)
+                if not are_alike(brought, kinds[short(name)]):
+                    kinds[short(name)] = brought
+        return kinds
 
     def source(self, name: Any) -> Any:
         """Returns the type of what a source brings."""

@@ -9,7 +9,7 @@ from .choices import Choices
 from .expressions import parameters
 from .fault import ImportFault
 from .findings import LEFT, REWRITTEN, WRONG, Findings
-from .flow import kinds_of
+from .flow import kinds_of_process
 from .folder import INPUTS, Folder, reference_to
 from .kinds import encoded, fits, is_unlike, mentions
 from .loading import Library, fault_at, graph_of
@@ -96,7 +96,7 @@ class Import:
         if not self.written:
             names = {**scope.names, **named_types(raw)}
             self.discovering = {short(key) for key, it in parameters(raw.get("inputs")) if isinstance(it, Fields) and not all_static(it.get("secondaryFiles"))}
-            self.types = kinds_of(raw.get("inputs"), names), kinds_of(raw.get("outputs"), names)
+            self.types = kinds_of_process(raw, names, self.peek)
         stem = os.path.splitext(os.path.basename(path))[0]
         name = self.folder.name(f"{stem}-{short(fragment)}" if fragment and self.written else stem)
         self.written[asked] = name

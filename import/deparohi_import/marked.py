@@ -10,6 +10,8 @@ class Fields(dict):
         super().__init__()
         self.file, self.line = file, line
         self.lines: Dict[str, Optional[int]] = {}
+        # Of a process: the types of its inputs and outputs, expanded, once they are known.
+        self.kinds: Any = None
 
     def put(self, key: str, value: Any, line: Optional[int] = None) -> None:
         """Sets an entry with its line, which is the object's where none is given."""

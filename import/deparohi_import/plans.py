@@ -21,12 +21,7 @@ PROGRAM_FILE = "in-job/1/run.js"
 
 
 class Evaluator(Fields):
-    """A tool that runs node. Requirements around it don't reach it: what it has to know of them is in its plan.
-
-    `kinds` has the types of its inputs and outputs, expanded.
-    """
-
-    kinds: Tuple[Dict[str, Any], Dict[str, Any]] = ({}, {})
+    """A tool that runs node. Requirements around it don't reach it: what it has to know of them is in its plan."""
 
 
 def program_text() -> str:

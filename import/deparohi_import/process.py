@@ -325,20 +325,12 @@ class Rewriter:
     def workflow(self, made: Fields, raw: Fields, scope: Scope) -> None:
         for it in lone_picks(raw):
             self.findings.add(LEFT, it, "pickValue", "pickValue of one link", "this runner takes a value that is no list for a list of one here, and cwltool lets it be")
-        self.unlike_outputs(raw, scope.names)
         steps = raw.get("steps")
         whole = (short(raw["id"]) if isinstance(raw.get("id"), str) else "", step_names(steps))
         if isinstance(made.get("outputs"), (Fields, Items)):
             self.clean_sources(made["outputs"], whole)
         if isinstance(steps, (Fields, Items)):
             made.put("steps", self.steps(steps, scope, whole), raw.line_of("steps"))
-
-    def unlike_outputs(self, raw: Fields, names: Dict[str, Any]) -> None:
-        """Finds outputs whose types read numbers otherwise than they come."""
-        flow = Flow(raw, names, self.javascript.peek)
-        for (name, it), kind in zip(parameters(raw.get("outputs")), kinds_of(raw.get("outputs"), names).values()):
-            if isinstance(it, Fields) and "outputSource" in it and not are_alike(flow.entry(it), kind):
-                self.findings.add(LEFT, it, "type", "float", f"the output {short(name)} may be a text as well as a number, and its source is a number")
 
     def steps(self, steps: Any, scope: Scope, whole: Tuple[str, Set[str]]) -> Any:
         listed = steps.like()
