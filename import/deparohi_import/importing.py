@@ -16,7 +16,7 @@ from .loading import Library, fault_at, graph_of
 from .javascript import JavaScript
 from .marked import Fields, Items
 from .names import short
-from .plans import Evaluator
+from .plans import Evaluator, too_long
 from .places import SCHEME, NotAFile, path_of, split_fragment
 from .process import Rewriter, Scope, named_types
 from .requirements import Requirements
@@ -50,7 +50,7 @@ class Import:
         self.rewriter = Rewriter(self.findings, requirements, self.values, self.run_named, javascript, choices)
         # The types of the root's inputs and outputs, expanded.
         self.types: Tuple[Dict[str, Any], Dict[str, Any]] = ({}, {})
-        self.is_in_job = False
+        self.is_in_job, self.apart = False, []
         self.discovering: Set[str] = set()
         self.written: Dict[Tuple, str] = {}
         self.open: List[Tuple] = []
@@ -104,7 +104,7 @@ class Import:
         self.rewriter.is_root = len(self.open) == 1
         made = self.rewriter.process(raw, scope)
         self.open.pop()
-        self.is_in_job = isinstance(made, Evaluator)
+        self.is_in_job, self.apart = isinstance(made, Evaluator), getattr(made, "apart", [])
         self.size += size_of(made)
         if self.size > MOST_VALUES:
             raise ImportFault(f"with a copy for each set of requirements the documents have more than {MOST_VALUES} values", path)
@@ -203,7 +203,19 @@ class Import:
             elif key not in ("cwl:tool", "$namespaces", "$schemas"):
                 self.rewriter.one_name(made, raw, key)
                 made.put(short(key), self.value(raw, key, it), raw.line_of(key))
+        reason = too_long(names_for_locations(made), self.apart) if self.is_in_job else None
+        if reason:
+            self.findings.add(LEFT, raw, None, "long inputs", reason)
         self.folder.document(INPUTS, made)
+
+
+def names_for_locations(value: Any) -> Any:
+    """Returns a value with the names of files in place of their paths, as the job is told."""
+    if isinstance(value, list):
+        return [names_for_locations(it) for it in value]
+    if not isinstance(value, dict):
+        return value
+    return {key: os.path.basename(it) if key == "location" and isinstance(it, str) else names_for_locations(it) for key, it in value.items()}
 
 
 def named_file(name: str) -> str:

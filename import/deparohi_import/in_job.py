@@ -15,7 +15,7 @@ from .marked import Fields, Items, copied, list_of, marked_of, object_of
 from .names import short
 from .plans import tool_of
 from .references import has_expression
-from .requirements import Asked, entries, variables_of
+from .requirements import NO_CONTAINERS, Asked, entries, variables_of
 from .secondary import all_static, static_patterns
 
 if TYPE_CHECKING:
@@ -170,10 +170,12 @@ class InJob:
             network = self.below.get("NetworkAccess")
             allowed = network.fields.get("networkAccess") if network else self.scope.version == "v1.0"
             made["container"] = {"engine": self.choices.container, "image": image, "network": allowed is True}
+            if isinstance(docker.fields.get("dockerOutputDirectory"), str):
+                made["container"]["outdir"] = docker.fields["dockerOutputDirectory"]
             if has_expression(allowed):
                 self.refuse(network.fields, "networkAccess", "expression in networkAccess", "whether the network may be used is decided before the run")  # type: ignore
         elif docker and not (docker.is_hint and not self.choices.container) and "DockerRequirement" not in forced:
-            words = "this runner has no containers" if image else "its image has to be built or loaded first"
+            words = NO_CONTAINERS if image else "its image has to be built or loaded first"
             self.refuse(docker.fields, "class", "DockerRequirement", f"{words}; --force-docker-as-hint leaves it to you")
         elif docker:
             made["software"] = {"image": image}

@@ -7,7 +7,7 @@ their sums are in the job's key. Their names follow from what they hold, so that
 import hashlib
 import json
 import os
-from typing import Any, Dict, List, Tuple
+from typing import Any, Dict, List, Optional, Tuple
 
 from .folder import Folder
 from .kinds import is_file_list, lowered
@@ -15,6 +15,8 @@ from .marked import Fields, Items, list_of, marked_of, object_of
 
 PARTS = os.path.join(os.path.dirname(os.path.abspath(__file__)), "in_job")
 NODE = ("node", "--disallow-code-generation-from-strings")
+# What Linux takes: a word of fewer bytes, and all of them together. A word has an end and a place in a list.
+MOST_IN_WORD, MOST_IN_ALL, ENDS = 131072, 2_097_152, 9
 PROGRAM, PLAN = "deparohi_program", "deparohi_plan"
 # The place of the program in the folder. Another number means that jobs are computed again.
 PROGRAM_FILE = "in-job/1/run.js"
@@ -22,6 +24,9 @@ PROGRAM_FILE = "in-job/1/run.js"
 
 class Evaluator(Fields):
     """A tool that runs node. Requirements around it don't reach it: what it has to know of them is in its plan."""
+
+    # The lists of files whose paths are words.
+    apart: List[str] = []
 
 
 def program_text() -> str:
@@ -47,6 +52,21 @@ def told_apart(inputs: List[Dict[str, Any]]) -> List[str]:
     lists = [it["name"] for it in inputs if is_file_list(it["type"])]
     rest = [it for it in inputs if it["name"] not in lists]
     return lists if lists and not any(is_ambiguous(it["type"]) for it in rest) else []
+
+
+def too_long(inputs: Dict[str, Any], apart: List[str]) -> Optional[str]:
+    """Returns why Linux won't start the job of node that is told these inputs, or None where that isn't sure."""
+    told = [it for name, it in inputs.items() if name not in apart]
+    longest = max(map(bytes_of, told if apart else [inputs]), default=0)
+    if longest >= MOST_IN_WORD:
+        return f"the inputs that node is told have {longest} bytes in a word, and Linux takes {MOST_IN_WORD - 1}: a long text does in a file, and many files do in inputs of the type File[]"
+    paths = sum(len(os.path.basename(str(it.get("location")))) + ENDS for name in apart for it in inputs.get(name) or [] if isinstance(it, dict))
+    return f"the paths of the files have more than {paths} bytes in all, and Linux takes fewer: a Directory of them does" if paths > MOST_IN_ALL else None
+
+
+def bytes_of(value: Any) -> int:
+    """Returns how many bytes the JSON of a value has at least."""
+    return len(json.dumps(value, ensure_ascii=False, default=str).encode("utf-8", "surrogatepass"))
 
 
 def is_ambiguous(kind: Any) -> bool:
@@ -82,6 +102,7 @@ def tool_of(node: Fields, plan: Dict[str, Any], inputs: List[Fields], folder: Fo
         if it["id"] in bindings:
             it.put("inputBinding", bindings[it["id"]])
     made = Evaluator(node.file, node.line)
+    made.apart = plan["lists"]
     made.kinds = {it["name"]: it["type"] for it in plan["inputs"]}, {it["name"]: it["type"] for it in plan["outputs"]}
     made.put("class", "CommandLineTool", node.line_of("class"))
     made.put("baseCommand", list_of(node, NODE))

@@ -35,6 +35,7 @@ FORCED = {
     "LoadListingRequirement": "--force-load-listing-as-hint",
     "ToolTimeLimit": "--force-time-limit-as-hint",
 }
+NO_CONTAINERS = "the proved program has no containers; --container docker (or podman, apptainer) runs the tool in one"
 CARRIED = (*FORCED, "NetworkAccess")
 
 
@@ -192,7 +193,7 @@ class Requirements:
             return None
         if name == "DockerRequirement" and self.choices.container:
             return f"{self.choices.container} runs it"
-        words = {"DockerRequirement": "this runner has no containers", "SoftwareRequirement": "this runner looks for no software"}
+        words = {"DockerRequirement": NO_CONTAINERS, "SoftwareRequirement": "this runner looks for no software"}
         return None if it.is_hint else words[name]
 
 

@@ -50,7 +50,7 @@ function toldApart(plan, words) {
   }));
 }
 
-// Files beside those of lists that were told by their paths: each belongs to the one whose name it shares the most of.
+// Files beside those of lists that were told by their paths: each belongs to the one file whose name, or a stem of it, it begins with.
 function companions(plan, inputs, folder) {
   const primaries = [], taken = new Set(process.argv.slice(1, 3));
   visit(inputs, (it) => taken.add(it.path));
@@ -61,10 +61,34 @@ function companions(plan, inputs, folder) {
   for (const one of exists(folder) ? fs.readdirSync(folder) : []) {
     for (const name of fs.readdirSync(path.join(folder, one)).sort()) {
       const at = path.join(folder, one, name);
-      const found = taken.has(at) ? [] : primaries.filter((it) => it.dirname === path.join(folder, one)).map((it) => [shared(it.basename, name), it]);
-      const best = found.sort((a, b) => b[0] - a[0])[0];
-      if (best && best[0] > 0) (best[1].secondaryFiles = best[1].secondaryFiles || []).push(ofPath(at));
+      if (!taken.has(at)) for (const it of ownersOf(name, primaries.filter((it) => it.dirname === path.join(folder, one)))) (it.secondaryFiles = it.secondaryFiles || []).push(ofPath(at));
     }
+  }
+}
+
+// The primary file of a name: of those it may belong to, the one with the longest stem. A file that stands in several places is each of them.
+function ownersOf(name, primaries) {
+  const paths = new Set(primaries.map((it) => it.path));
+  if (paths.size <= 1) return primaries;
+  let most = 0, found = [];
+  for (const it of primaries) {
+    const length = stemIn(name, it.basename);
+    if (length > most) [most, found] = [length, []];
+    if (length === most && length > 0) found.push(it);
+  }
+  const said = "let the input of the tool say its secondaryFiles, which tells it";
+  if (found.length === 0) fail(`of which file ${name} is a secondary file isn't known: ${said}`);
+  if (new Set(found.map((it) => it.path)).size > 1) fail(`${name} may be a secondary file of ${found.map((it) => it.basename).join(" and of ")}: ${said}`);
+  return found;
+}
+
+// The length of the longest stem of a file's name that another name goes on from, or 0.
+function stemIn(name, basename) {
+  for (let stem = basename; ; ) {
+    if (name.length > stem.length && name.startsWith(stem) && !/[A-Za-z0-9]/.test(name[stem.length])) return stem.length;
+    const shorter = splitName(stem)[0];
+    if (shorter === stem) return 0;
+    stem = shorter;
   }
 }
 
@@ -77,13 +101,6 @@ function beside(it, patterns, taken) {
     taken.add(at);
   }
   return it;
-}
-
-// How many characters two names begin with alike.
-function shared(one, other) {
-  let count = 0;
-  while (count < one.length && one[count] === other[count]) count++;
-  return count;
 }
 
 function listed(it, isDeep) {

@@ -1,5 +1,8 @@
 // One job: the inputs, the working folder, the command, the outputs.
 
+// Linux takes no word of more bytes, its end counted.
+const MOST_IN_WORD = 131072;
+
 function numberOf(expressions, it, name) {
   const value = hasExpression(it) ? expressions.value(it) : it;
   if (value === undefined || value === null) return undefined;
@@ -42,16 +45,17 @@ function streamName(expressions, plan, kind) {
 
 // The words before the command that run it in a container, where every file has the path that it has outside.
 function boxed(plan, environment, folders) {
-  const { engine, image, network } = plan.container, { outdir, tmpdir, staged } = folders;
+  const { engine, image, network, outdir: inner } = plan.container, { outdir, tmpdir, staged } = folders;
+  const further = inner === undefined ? [] : [`${outdir}:${inner}`], workdir = inner === undefined ? outdir : inner;
   const named = [...new Set([...plan.environment.map(([name]) => name), "HOME", "TMPDIR"])];
   if (engine === "apptainer") {
-    const binds = [`${outdir}:${outdir}`, `${tmpdir}:${tmpdir}`, ...(exists(staged) ? [`${staged}:${staged}:ro`] : [])];
+    const binds = [`${outdir}:${outdir}`, ...further, `${tmpdir}:${tmpdir}`, ...(exists(staged) ? [`${staged}:${staged}:ro`] : [])];
     const source = /^(\w+:\/\/|\/|\.)/.test(image) ? image : `docker://${image}`;
-    return ["apptainer", "exec", "--contain", "--cleanenv", "--no-home", ...binds.flatMap((it) => ["--bind", it]), "--pwd", outdir, ...named.flatMap((it) => ["--env", `${it}=${environment[it]}`]), source];
+    return ["apptainer", "exec", "--contain", "--cleanenv", "--no-home", ...binds.flatMap((it) => ["--bind", it]), "--pwd", workdir, ...named.flatMap((it) => ["--env", `${it}=${environment[it]}`]), source];
   }
-  const mounts = [`${outdir}:${outdir}`, `${tmpdir}:${tmpdir}`, ...(exists(staged) ? [`${staged}:${staged}:ro`] : [])];
+  const mounts = [`${outdir}:${outdir}`, ...further, `${tmpdir}:${tmpdir}`, ...(exists(staged) ? [`${staged}:${staged}:ro`] : [])];
   const user = engine === "docker" ? ["--user", `${process.getuid()}:${process.getgid()}`] : ["--userns", "keep-id"];
-  return [engine, "run", "--rm", "-i", ...mounts.flatMap((it) => ["--volume", it]), "--workdir", outdir, ...user, ...(network ? [] : ["--network", "none"]), ...named.flatMap((it) => ["--env", `${it}=${environment[it]}`]), image];
+  return [engine, "run", "--rm", "-i", ...mounts.flatMap((it) => ["--volume", it]), "--workdir", workdir, ...user, ...(network ? [] : ["--network", "none"]), ...named.flatMap((it) => ["--env", `${it}=${environment[it]}`]), image];
 }
 
 // Runs the command with its streams. Returns its exit code, or the signal that ended it.
@@ -72,9 +76,18 @@ function started(plan, expressions, folders) {
   const under = limit ? ["timeout", "-s", "KILL", String(limit), ...whole] : whole;
   const ended = require("child_process").spawnSync(under[0], under.slice(1), { cwd: folders.outdir, env: environment, stdio: [input, output, errors] });
   const shown = (plan.shell ? [plain[2]] : plain.map(shellQuoted)).join(" ");
+  if (ended.error && ended.error.code === "E2BIG") fail(`${tooLong(under, environment)}: ${shown.slice(0, 2000)}`);
   if (ended.error) fail(ended.error.code === "ENOENT" ? `the program ${under[0]} isn't found in ${environment.PATH}: ${shown}` : `the command can't be started (${ended.error.code}): ${shown.slice(0, 2000)}`);
   const killed = limit && (ended.signal === "SIGKILL" || [124, 137].includes(ended.status));
   return { code: ended.status, signal: ended.signal, shown, late: killed ? limit : 0, stdout, stderr };
+}
+
+// Why Linux doesn't start a command with these words and variables, and what would do.
+function tooLong(words, environment) {
+  const all = [...words, ...Object.entries(environment).map(([name, it]) => `${name}=${it}`)].map((it) => Buffer.byteLength(it));
+  const longest = Math.max(...all), sum = all.reduce((one, other) => one + other + 9, 0);
+  const why = longest >= MOST_IN_WORD ? `a word of the command has ${longest} bytes, and Linux takes ${MOST_IN_WORD - 1}` : `the words of the command have ${sum} bytes in all, and Linux takes fewer`;
+  return `${why}; a file of them does, that InitialWorkDirRequirement writes and the command reads`;
 }
 
 function timeLimit(plan, expressions) {
@@ -123,8 +136,8 @@ function ranTool(plan, expressions, folders) {
 function ranExpression(plan, expressions, outdir) {
   resources(plan, expressions);
   const value = expressions.value(plan.expression);
-  if (!isObject(value)) fail(`an ExpressionTool gives no object: ${pythonJson(value).slice(0, 200)}`);
-  new Outputs(plan, expressions, outdir).write(value);
+  if (!isObject(value) && plan.outputs.length > 0) fail(`an ExpressionTool gives no object: ${pythonJson(value).slice(0, 200)}`);
+  new Outputs(plan, expressions, outdir).write(isObject(value) ? value : {});
 }
 
 // The texts of a step: `valueFrom` sees its inputs as they come, and `when` sees them with what valueFrom gave.
