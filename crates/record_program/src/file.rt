@@ -13,7 +13,7 @@ use crate::store::shown;
 use crate::tables::as_record;
 use job_record::{JobRecord, RecordFault};
 use job_rows::Record;
-use sqlite::{Connection, FileStore, Files};
+use sqlite::{Connection, File, FileStore, Files};
 use sqlite_disk::Disk;
 use std::io::Write;
 use std::rt::Files as Folder;
@@ -57,29 +57,29 @@ pub trait Records {
         ensures { leaves kept result };
 }
 
-impl<R: AllocGlobal + Folder + Databases> Records for R {
-    type Kept = JobRecord<FileStore<R::Medium>>;
+impl Records for HostRuntime {
+    type Kept = JobRecord<FileStore<File>>;
 
-    type Left = Result<Files<R::Medium>, FileStore<R::Medium>>;
+    type Left = Result<Files<File>, FileStore<File>>;
 
-    ghost opens = { λ rt file kept. IsRecordOf R.Medium.Disk (R.opens rt file) kept.conn };
+    ghost opens = { λ rt file kept. IsRecordOf ⟦<File as Disk>⟧ (⟦<HostRuntime as Databases>⟧.opens rt file) kept.conn };
 
-    ghost ends = { λ rt file forget ending. EndsOn R.Medium.Disk (R.opens rt file) forget ending };
+    ghost ends = { λ rt file forget ending. EndsOn ⟦<File as Disk>⟧ (⟦<HostRuntime as Databases>⟧.opens rt file) forget ending };
 
-    ghost leaves = { λ kept left. Leaves R.Medium.Disk kept.conn left };
+    ghost leaves = { λ kept left. Leaves ⟦<File as Disk>⟧ kept.conn left };
 
     fn record_ending(&self, file: &str, forget: Option<&str>) -> Ending {
         ending_of(self, file, forget)
     }
 
-    fn open_record(&self, file: &str) -> Result<JobRecord<FileStore<R::Medium>>, RecordFault> {
+    fn open_record(&self, file: &str) -> Result<JobRecord<FileStore<File>>, RecordFault> {
         opened(self, file)
     }
 
     fn close_record(
         &self,
-        kept: JobRecord<FileStore<R::Medium>>,
-    ) -> Result<Files<R::Medium>, FileStore<R::Medium>> {
+        kept: JobRecord<FileStore<File>>,
+    ) -> Result<Files<File>, FileStore<File>> {
         left_of(kept.into_connection())
     }
 }
