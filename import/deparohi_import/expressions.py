@@ -8,14 +8,15 @@ import re
 from typing import Any, Dict, FrozenSet, Iterable, List, NamedTuple, Optional, Tuple
 
 from .marked import Fields, Items
+from .pattern import Pattern
 from .references import JAVASCRIPT, NAME, faults
 
-START = re.compile(r"\$[({]")
+START = Pattern(r"\$[({]")
 # The name of `self` among what is loaded; no input has it.
 SELF = "#self"
 OPENERS = {"(": ")", "{": "}"}
-VARIABLE = re.compile(r"(?<![\w$.])(inputs|self|runtime|globalThis|eval|Function|require|process)(?![\w$])")
-SEGMENT = re.compile(r"""\s*(?:\.\s*([A-Za-z_]\w*)|\[\s*(?:([0-9]+)|'([^'\\]*)'|"([^"\\]*)")\s*\])""")
+VARIABLE = Pattern(r"(?<![\w$.])(inputs|self|runtime|globalThis|eval|Function|require|process)(?![\w$])")
+SEGMENT = Pattern(r"""\s*(?:\.\s*([A-Za-z_]\w*)|\[\s*(?:([0-9]+)|'([^'\\]*)'|"([^"\\]*)")\s*\])""")
 # What a File has here and in cwltool alike.
 ALIKE = ("contents", "basename", "nameroot", "nameext", "class", "length")
 INNER = ("listing",)

@@ -4,19 +4,20 @@ import json
 import os
 import re
 import signal
-import subprocess
 import sys
 from typing import Any, Dict, List, Optional
 from urllib.parse import unquote
 
 from . import program as importer
-from .kinds import given_back
+from .formats import with_format
+from .kinds import FORMATS, given_back
+from .pattern import Pattern
 
 # The options of the proved program that take a value.
 VALUED = ("--work", "--outdir", "--slots", "--retries", "--record", "--archive", "--cache", "--base", "--rate")
 WORK, MADE_BY = "cwl-work", "made-by"
 # What is no such document at all is wrong; any other document that is refused has something that this runner doesn't take.
-WRONG_DOCUMENT = re.compile(rb"^refused: (C1|C4|C8|K[0-9])", re.M)
+WRONG_DOCUMENT = Pattern(rb"^refused: (C1|C4|C8|K[0-9])", re.M)
 
 
 class Words:
@@ -98,6 +99,8 @@ def started(words: List[str], document: str) -> int:
     # The program ends at these signals by itself, and says so.
     for one in (signal.SIGINT, signal.SIGTERM, signal.SIGHUP):
         signal.signal(one, lambda *_: None)
+    import subprocess
+
     ended = subprocess.run(words, stdout=subprocess.PIPE)
     made = with_numbers(ended.stdout, document)
     if made is None:
@@ -115,7 +118,14 @@ def with_numbers(text: bytes, document: str) -> Optional[Dict[str, Any]]:
     except ValueError:
         return None
     kinds = json.loads(text_of(f"{document}.numbers") or "{}")
-    return {name: given_back(it, kinds.get(name, "Any")) for name, it in made.items()} if isinstance(made, dict) else None
+    formats = kinds.get(FORMATS, {})
+    return {name: told(it, kinds.get(name, "Any"), formats.get(name)) for name, it in made.items()} if isinstance(made, dict) else None
+
+
+def told(value: Any, kind: Any, form: Optional[str]) -> Any:
+    """Returns an output value as it is told outside."""
+    made = given_back(value, kind)
+    return with_format(made, form) if form else made
 
 
 def cwl_runner(room: str, program: str, words: List[str]) -> int:
@@ -128,6 +138,8 @@ def cwl_runner(room: str, program: str, words: List[str]) -> int:
     status, made = importer.made_of([*quiet, "-o", taken.imported or os.path.join(room, "in"), *taken.importer, "--", *taken.files])
     if status:
         return status if status == importer.UNSUPPORTED else 1
+    import subprocess
+
     work = [] if taken.work else ["--work", os.path.join(room, "work")]
     try:
         ended = subprocess.run([program, "run", *work, *taken.program, *made], stdout=subprocess.PIPE, stderr=subprocess.PIPE)

@@ -2,7 +2,7 @@
 
 import json
 import os
-from typing import Any, Dict, List, Set, Tuple
+from typing import Any, Dict, List, Optional, Set, Tuple
 
 from .checking import Checker
 from .choices import Choices
@@ -11,7 +11,8 @@ from .fault import ImportFault
 from .findings import LEFT, REWRITTEN, WRONG, Findings
 from .flow import kinds_of_process
 from .folder import INPUTS, Folder, reference_to
-from .kinds import encoded, fits, is_unlike, mentions
+from .formats import Formats
+from .kinds import FORMATS, encoded, fits, is_unlike, mentions
 from .loading import Library, fault_at, graph_of
 from .javascript import JavaScript
 from .marked import Fields, Items
@@ -50,7 +51,8 @@ class Import:
         self.rewriter = Rewriter(self.findings, requirements, self.values, self.run_named, javascript, choices)
         # The types of the root's inputs and outputs, expanded.
         self.types: Tuple[Dict[str, Any], Dict[str, Any]] = ({}, {})
-        self.is_in_job, self.apart = False, []
+        self.is_in_job, self.apart, self.name = False, [], ""
+        self.root: Optional[Tuple[Fields, Dict[str, Any]]] = None
         self.discovering: Set[str] = set()
         self.written: Dict[Tuple, str] = {}
         self.open: List[Tuple] = []
@@ -64,9 +66,9 @@ class Import:
         if not os.path.exists(path):
             path, fragment = split_fragment(location)
             path = named_file(path)
-        name = self.process(os.path.abspath(path), fragment, Scope({}, {}), None, None)
-        self.numbers(name)
-        return name
+        self.name = self.process(os.path.abspath(path), fragment, Scope({}, {}), None, None)
+        self.tell_back({})
+        return self.name
 
     def whole(self, path: str, node: Any, key: Any) -> Fields:
         """Returns a document with its imports in place, of a version that is read."""
@@ -96,7 +98,7 @@ class Import:
         if not self.written:
             names = {**scope.names, **named_types(raw)}
             self.discovering = {short(key) for key, it in parameters(raw.get("inputs")) if isinstance(it, Fields) and not all_static(it.get("secondaryFiles"))}
-            self.types = kinds_of_process(raw, names, self.peek)
+            self.types, self.root = kinds_of_process(raw, names, self.peek), (raw, names)
         stem = os.path.splitext(os.path.basename(path))[0]
         name = self.folder.name(f"{stem}-{short(fragment)}" if fragment and self.written else stem)
         self.written[asked] = name
@@ -182,11 +184,18 @@ class Import:
             self.findings.add(WRONG, raw, key, "type", f"the value of {short(key)} isn't of its type")
         return encoded(made, kind)
 
-    def numbers(self, name: str) -> None:
-        """Writes beside a document the types by which its outputs are given back, where numbers with a fraction may be among them."""
+    def tell_back(self, given: Dict[str, Any]) -> None:
+        """Writes beside a document how its outputs are told: the types of those with numbers that have a fraction, and the formats of files."""
         found = {key: kind for key, kind in self.types[1].items() if mentions(kind, ("float", "double", "record", "Any"))}
+        namespaces = {path: whole.get("$namespaces") for path, whole in self.upgraded.items()}
+        formats = Formats(self.peek, namespaces)
+        root = self.root
+        told = formats.outputs(root[0], root[1], {short(key): formats.of_value(it) for key, it in given.items()}) if root else {}
+        if any(told.values()):
+            found[FORMATS] = {key: it for key, it in told.items() if it is not None}
+        self.folder.extras.pop(f"{self.name}.numbers", None)
         if found:
-            self.folder.extra(f"{name}.numbers", lambda: json.dumps(found, indent=1) + "\n")
+            self.folder.extra(f"{self.name}.numbers", lambda: json.dumps(found, indent=1) + "\n")
 
     def inputs(self, path: str) -> None:
         """Imports an input object."""
@@ -196,6 +205,8 @@ class Import:
             raw = Fields(os.path.abspath(path), 1)
         if not isinstance(raw, Fields):
             raise ImportFault("the input object is no object", path)
+        self.upgraded.setdefault(raw.file, raw) if "$namespaces" in raw else None
+        self.tell_back({key: it for key, it in raw.items() if isinstance(it, (Fields, Items))})
         made = raw.like()
         for key, it in raw.items():
             if key in ("cwl:requirements", "cwl:overrides", "cwltool:overrides", "http://commonwl.org/cwltool#overrides"):

@@ -13,6 +13,7 @@ from .javascript_parts import parts_of_any
 from .kinds import encoded, items_of, lowered
 from .marked import Fields, Items, copied, list_of, marked_of, object_of
 from .names import short
+from .pattern import Pattern
 from .plans import tool_of
 from .references import has_expression
 from .requirements import NO_CONTAINERS, Asked, entries, variables_of
@@ -23,10 +24,10 @@ if TYPE_CHECKING:
 
 COPIED = ("successCodes", "temporaryFailCodes", "permanentFailCodes")
 DOCUMENTING = ("doc", "label", "intent", "format", "streamable", "$namespaces", "$schemas")
-WHOLE_INPUTS = re.compile(r"(?<![\w$.'\"])inputs(?!\w|\s*[.\[:])")
+WHOLE_INPUTS = Pattern(r"(?<![\w$.'\"])inputs(?!\w|\s*[.\[:])")
 # What sees the order of an object's names, and what is no code.
-ENUMERATES = re.compile(r"\bin\b|\bObject\b|\bJSON\b|\.\.\.|\bReflect\b|\bforEach\b")
-APART = re.compile(r"'(?:[^'\\\n]|\\.)*'|\"(?:[^\"\\\n]|\\.)*\"|//[^\n]*|/\*.*?\*/", re.S)
+ENUMERATES = Pattern(r"\bin\b|\bObject\b|\bJSON\b|\.\.\.|\bReflect\b|\bforEach\b")
+APART = Pattern(r"'(?:[^'\\\n]|\\.)*'|\"(?:[^\"\\\n]|\\.)*\"|//[^\n]*|/\*.*?\*/", re.S)
 KNOWN_LISTINGS = ("no_listing", "shallow_listing", "deep_listing")
 
 

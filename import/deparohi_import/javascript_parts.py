@@ -1,12 +1,12 @@
 """The JavaScript in a text, as far as it has to be looked at before a run."""
 
-import re
 from typing import List
 
 from .expressions import end_of
+from .pattern import Pattern
 from .references import REFERENCE
 
-START = re.compile(r"\$[({]")
+START = Pattern(r"\$[({]")
 
 
 def parts_of_any(text: str) -> List[str]:

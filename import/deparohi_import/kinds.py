@@ -10,6 +10,8 @@ from .marked import Fields, Items
 from .names import short
 
 NUMBER = "deparohi:number"
+# Among the types by which outputs are told: the formats of their files.
+FORMATS = "deparohi:formats"
 FLOATS = ("float", "double")
 TEXTS = ("string", "Any")
 

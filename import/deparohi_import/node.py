@@ -1,6 +1,6 @@
 """What is evaluated apart by `node`, in a tool of its own: texts, each for one output."""
 
-import shutil
+import os
 from typing import Any, List, NamedTuple, Optional
 
 from .expressions import Part
@@ -28,7 +28,8 @@ class Task(NamedTuple):
 
 
 def is_there() -> bool:
-    return shutil.which(COMMAND) is not None
+    """Says whether node is in PATH."""
+    return any(os.access(os.path.join(it, COMMAND), os.X_OK) and os.path.isfile(os.path.join(it, COMMAND)) for it in os.environ.get("PATH", os.defpath).split(os.pathsep))
 
 
 def parameter(node: Fields, name: str, kind: Any = ANYTHING, **more: Any) -> Fields:

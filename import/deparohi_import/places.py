@@ -1,11 +1,12 @@
 """Paths of files and their URLs. Nothing is fetched: a URL has to be one of a file."""
 
 import os
-import re
 from typing import Tuple
 from urllib.parse import quote, unquote_to_bytes
 
-SCHEME = re.compile(r"([A-Za-z][A-Za-z0-9+.-]+):")
+from .pattern import Pattern
+
+SCHEME = Pattern(r"([A-Za-z][A-Za-z0-9+.-]+):")
 UNESCAPED = "/-._~"
 
 

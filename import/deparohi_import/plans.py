@@ -4,12 +4,11 @@ The program of such jobs is in the folder `in_job`; what it is to do is in a pla
 their sums are in the job's key. Their names follow from what they hold, so that a second import gives the same.
 """
 
-import hashlib
 import json
 import os
 from typing import Any, Dict, List, Optional, Tuple
 
-from .folder import Folder
+from .folder import Folder, sum_of
 from .kinds import is_file_list, lowered
 from .marked import Fields, Items, list_of, marked_of, object_of
 
@@ -42,7 +41,7 @@ def program_text() -> str:
 def write_plan(folder: Folder, plan: Dict[str, Any]) -> str:
     """Writes a plan and the program. Returns the location of the plan."""
     text = json.dumps(plan, sort_keys=True, ensure_ascii=False, indent=1) + "\n"
-    name = hashlib.sha1(text.encode("utf-8", "surrogatepass")).hexdigest()[:20]
+    name = sum_of(text)[:20]
     folder.extra(PROGRAM_FILE, program_text)
     return folder.extra(f"in-job/{name}/plan.json", lambda: text)
 

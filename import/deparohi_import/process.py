@@ -217,7 +217,7 @@ class Rewriter:
             elif key == "outputBinding":
                 it = self.output_binding(it)
             elif key == "format":
-                self.findings.add(IGNORED, raw, key, "format", "formats are neither checked nor in the output object")
+                self.findings.add(IGNORED, raw, key, "format", "formats are told in the output object, and not checked")
             if key == "loadContents" and kind == "Workflow" and it is True:
                 self.findings.add(LEFT, raw, key, "loadContents of a workflow", "this runner loads contents for tools alone")
             made.put(key, it, line)

@@ -2,7 +2,6 @@
 
 import argparse
 import os
-import re
 import sys
 from typing import List, Optional, Tuple
 
@@ -12,6 +11,7 @@ from .fault import ImportFault
 from .findings import LEFT, WRONG, Findings
 from .folder import INPUTS, Folder
 from .importing import Import
+from .pattern import Pattern
 from .requirements import FORCED
 from .versions import UnknownVersion
 
@@ -20,7 +20,7 @@ UNSUPPORTED, FAILED, USAGE = 33, 1, 3
 VALUED = ("--container", "--cores", "--ram", "--environment")
 FLAGS = ("--allow-outside", "--leave-javascript", *FORCED.values())
 # Refusals of documents that are wrong by the standard, as cwl-runner takes them, and not only of what this runner leaves out.
-WRONG_DOCUMENT = re.compile(r"refused: (C1|C4|C8|K\d)\b")
+WRONG_DOCUMENT = Pattern(r"refused: (C1|C4|C8|K\d)\b")
 
 
 def words_of(arguments: List[str]) -> argparse.Namespace:

@@ -1,16 +1,17 @@
 """Parameter references, as far as an import has to tell them from JavaScript. The grammar is that of docs/reference/codes.md, "References"."""
 
-import re
 from typing import Iterator, Tuple
 
+from .pattern import Pattern
+
 SEGMENT = r"""(?:\.[A-Za-z0-9_]+|\['[^'\\]*'\]|\["[^"\\]*"\]|\[[0-9]+\])"""
-REFERENCE = re.compile(r"\$\(([A-Za-z0-9_]+)((?:" + SEGMENT + r")*)\)")
+REFERENCE = Pattern(r"\$\(([A-Za-z0-9_]+)((?:" + SEGMENT + r")*)\)")
 JAVASCRIPT, BACKSLASH, NAME, RUNTIME, PATH = "JavaScript", "backslash beside a reference", "unknown name in a reference", "runtime.", "path outside a command"
 OF_RUNTIME = ("cores", "outdir", "tmpdir")
 # What a File has that is a text or a number: only JavaScript finds something in it, as the length of its contents.
-INNER = re.compile(r"(?:\.|\[['\"])(?:basename|checksum|class|contents|dirname|location|nameext|nameroot|path|size)(?:['\"]\])?[.\[]")
-LENGTH = re.compile(r"(" + SEGMENT + r")?\.length")
-PLACE = re.compile(r"(?:\.|\[['\"])(path|dirname|location)(?![A-Za-z0-9_])")
+INNER = Pattern(r"(?:\.|\[['\"])(?:basename|checksum|class|contents|dirname|location|nameext|nameroot|path|size)(?:['\"]\])?[.\[]")
+LENGTH = Pattern(r"(" + SEGMENT + r")?\.length")
+PLACE = Pattern(r"(?:\.|\[['\"])(path|dirname|location)(?![A-Za-z0-9_])")
 
 
 def has_expression(text: object) -> bool:

@@ -1,17 +1,18 @@
 """Reads plain scalars by the core schema of YAML 1.2, in which `yes` and `no` are texts."""
 
-import re
 from typing import Any, Optional
 
-NULL = re.compile(r"(?:~|null|Null|NULL|)\Z")
-TRUE = re.compile(r"(?:true|True|TRUE)\Z")
-FALSE = re.compile(r"(?:false|False|FALSE)\Z")
-INT = re.compile(r"[-+]?[0-9]+\Z")
-OCTAL = re.compile(r"0o[0-7]+\Z")
-HEX = re.compile(r"0x[0-9a-fA-F]+\Z")
-INFINITE = re.compile(r"(?:[-+]?\.(?:inf|Inf|INF)|\.(?:nan|NaN|NAN))\Z")
+from .pattern import Pattern
+
+NULL = Pattern(r"(?:~|null|Null|NULL|)\Z")
+TRUE = Pattern(r"(?:true|True|TRUE)\Z")
+FALSE = Pattern(r"(?:false|False|FALSE)\Z")
+INT = Pattern(r"[-+]?[0-9]+\Z")
+OCTAL = Pattern(r"0o[0-7]+\Z")
+HEX = Pattern(r"0x[0-9a-fA-F]+\Z")
+INFINITE = Pattern(r"(?:[-+]?\.(?:inf|Inf|INF)|\.(?:nan|NaN|NAN))\Z")
 MOST_DIGITS = 4_000
-FLOAT = re.compile(r"[-+]?(?:\.[0-9]+|[0-9]+(?:\.[0-9]*)?)(?:[eE][-+]?[0-9]+)?\Z")
+FLOAT = Pattern(r"[-+]?(?:\.[0-9]+|[0-9]+(?:\.[0-9]*)?)(?:[eE][-+]?[0-9]+)?\Z")
 STANDARD = "tag:yaml.org,2002:"
 
 

@@ -5,14 +5,15 @@ import re
 from typing import Any, Dict, List, Optional
 
 from .marked import Fields, Items, copied, list_of, object_of
+from .pattern import Pattern
 from .places import path_of, url_of
 from .references import has_expression
 
 TEXT = r"""(?:'([^'\\$]*)'|"([^"\\$]*)")"""
 NAME = r"(?:self\.basename|self\.(?:location|path)\.split\(['\"]/['\"]\)\.(?:slice\(-1\)\[0\]|pop\(\))|self\.(?:location|path)\.replace\(/\^\.\*\\/(?:\\/)?/\s*,\s*['\"]{2}\))"
-CODE = re.compile(r"(?:" + NAME + r"|(self\.nameroot))\s*(?:\+\s*" + TEXT + r"\s*)?\Z")
-TEXT_AROUND = re.compile(r"\$\(self\.(basename|nameroot)\)([^$\\]*)\Z")
-RETURNED = re.compile(r"\$\{\s*return\s+(.*?)\s*;?\s*\}\Z", re.S)
+CODE = Pattern(r"(?:" + NAME + r"|(self\.nameroot))\s*(?:\+\s*" + TEXT + r"\s*)?\Z")
+TEXT_AROUND = Pattern(r"\$\(self\.(basename|nameroot)\)([^$\\]*)\Z")
+RETURNED = Pattern(r"\$\{\s*return\s+(.*?)\s*;?\s*\}\Z", re.S)
 
 
 def static_pattern(text: str) -> Optional[str]:

@@ -8,12 +8,13 @@ from .findings import LEFT, REWRITTEN, WRONG, Findings
 from .kinds import FLOATS, expanded, is_bare, is_unlike, lowered, mentions
 from .marked import Fields, Items, marked_of
 from .names import class_name, short
+from .pattern import Pattern
 
 PLAIN = ("null", "boolean", "int", "long", "string", "File", "Directory", "Any")
 STREAMS = ("stdin", "stdout", "stderr")
 # Where a type stands: the runner itself binds words of a tool's inputs, and reads what a tool gave.
 OF_INPUT, OF_OUTPUT, OF_LINK = "input", "output", "link"
-NAMED = re.compile(r"(.*?)((?:\[\])*)(\??)\Z", re.S)
+NAMED = Pattern(r"(.*?)((?:\[\])*)(\??)\Z", re.S)
 SALAD = ("https://w3id.org/cwl/salad#", "salad:", "xsd:", "http://www.w3.org/2001/XMLSchema#")
 MOST_NAMES = 20
 MOST_MEMBERS = 200_000

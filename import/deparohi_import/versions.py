@@ -5,9 +5,6 @@ What v1.0 and v1.1 say otherwise than v1.2 is little, and is rewritten where it 
 no meaning. A v1.0 tool may use the network and sees whole listings of folders; so does each tool of this runner.
 """
 
-import contextlib
-import io
-import tempfile
 from typing import Any
 
 from .fault import ImportFault
@@ -35,6 +32,10 @@ class UnknownVersion(ImportFault):
 
 
 def of_draft_3(document: Fields) -> Fields:
+    import contextlib
+    import io
+    import tempfile
+
     try:
         from cwlupgrader.main import upgrade_document
         from ruamel.yaml.comments import CommentedMap, CommentedSeq

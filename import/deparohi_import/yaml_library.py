@@ -1,41 +1,42 @@
-"""The YAML library: ruamel.yaml where it is installed, else PyYAML. Only its parser is used, which gives events."""
+"""The YAML library: PyYAML where it has its parser in C, which loads in half the time, else ruamel.yaml, else PyYAML without.
 
-from typing import Any, Iterator
+Only the parser is used, which gives events; both libraries have the same one in C. It keeps less and is ten times as fast as one in Python.
+"""
 
-try:
-    import ruamel.yaml as library
+from typing import Any, Iterator, Tuple
 
-    NAME = "ruamel.yaml"
-    # The parser in C keeps less and is ten times as fast.
-    FAST = bool(library.__with_libyaml__)
 
-    def events_of(text: str) -> Iterator[Any]:
-        return library.YAML(typ="safe").parse(text)
-
-    def slow_events_of(text: str) -> Iterator[Any]:
-        return library.YAML(typ="safe", pure=True).parse(text)
-
-except ImportError:
+def found() -> Tuple[str, Any]:
+    """Returns the name of the library and its module, or no name."""
     try:
-        import yaml as library  # type: ignore
+        import yaml
 
-        NAME = "PyYAML"
-        FAST = bool(library.__with_libyaml__)
-
-        def events_of(text: str) -> Iterator[Any]:
-            return library.parse(text, Loader=library.CSafeLoader if FAST else library.SafeLoader)
-
-        def slow_events_of(text: str) -> Iterator[Any]:
-            return library.parse(text, Loader=library.SafeLoader)
-
+        if yaml.__with_libyaml__:
+            return "PyYAML", yaml
     except ImportError:
-        library = None  # type: ignore
-        NAME, FAST = "", False
+        yaml = None  # type: ignore
+    try:
+        import ruamel.yaml
 
-        def events_of(text: str) -> Iterator[Any]:
-            raise RuntimeError("no YAML library")
+        return "ruamel.yaml", ruamel.yaml
+    except ImportError:
+        return ("PyYAML", yaml) if yaml else ("", None)
 
-        slow_events_of = events_of
+
+NAME, library = found()
+FAST = bool(library and library.__with_libyaml__)
+
+
+def events_of(text: str) -> Iterator[Any]:
+    if NAME == "ruamel.yaml":
+        return library.YAML(typ="safe").parse(text)
+    if not NAME:
+        raise RuntimeError("no YAML library")
+    return library.parse(text, Loader=library.CSafeLoader if FAST else library.SafeLoader)
+
+
+def slow_events_of(text: str) -> Iterator[Any]:
+    return library.YAML(typ="safe", pure=True).parse(text) if NAME == "ruamel.yaml" else library.parse(text, Loader=library.SafeLoader)
 
 
 YAMLError = library.error.YAMLError if library else ValueError

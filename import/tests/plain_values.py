@@ -1,8 +1,23 @@
 """Output objects without paths: each File as its name and text, each Directory as its name and the texts of its files."""
 
 import os
-from typing import Any
+from typing import Any, List
 from urllib.parse import unquote
+
+LABORATORY = os.path.join(os.path.dirname(os.path.realpath(__file__)), "laboratory")
+
+
+def cases() -> List[str]:
+    """Returns the names of the documents in `laboratory`: NAME.cwl with NAME.yml, or NAME/main.cwl with NAME/job.yml."""
+    found = os.listdir(LABORATORY)
+    return sorted([it[:-4] for it in found if it.endswith(".yml") and f"{it[:-4]}.cwl" in found] + [it for it in found if os.path.exists(f"{LABORATORY}/{it}/main.cwl")])
+
+
+def files_of(name: str) -> List[str]:
+    """Returns the paths of a document and of its input object."""
+    if os.path.isdir(f"{LABORATORY}/{name}") and os.path.exists(f"{LABORATORY}/{name}/main.cwl"):
+        return [f"{LABORATORY}/{name}/main.cwl", f"{LABORATORY}/{name}/job.yml"]
+    return [f"{LABORATORY}/{name}.cwl", f"{LABORATORY}/{name}.yml"]
 
 
 def plain_texts(value: Any) -> Any:

@@ -11,7 +11,7 @@ import unittest
 from typing import Any, Dict, List
 
 from .helping import HERE, TOOL, TOP, InFolder
-from .plain_values import plain_texts
+from .plain_values import cases, files_of, plain_texts
 from .test_program import program
 
 from deparohi_import import node
@@ -50,9 +50,10 @@ class Laboratory(InFolder):
     def test_documents_give_what_cwltool_gives(self) -> None:
         with open(os.path.join(DOCUMENTS, "expected.json"), encoding="utf-8") as it:
             expected = json.load(it)
+        self.assertEqual(cases(), sorted(expected))
         for name, outputs in expected.items():
             with self.subTest(name):
-                ended = self.run_front("run", "--explain", "--work", f"work-{name}", "--outdir", name, f"{DOCUMENTS}/{name}.cwl", f"{DOCUMENTS}/{name}.yml")
+                ended = self.run_front("run", "--explain", "--work", f"work-{name}", "--outdir", name, *files_of(name))
                 self.assertEqual(0, ended.returncode, ended.stderr)
                 made = plain_texts(json.loads(ended.stdout))
                 # Text shows that 1 isn't 1.0.

@@ -1,0 +1,11 @@
+cwlVersion: v1.0
+class: CommandLineTool
+requirements: {InlineJavascriptRequirement: {}, ShellCommandRequirement: {}}
+baseCommand: [sh, -c]
+arguments: ["exit $(inputs.code)"]
+successCodes: [3, 4]
+inputs: {code: int}
+outputs:
+  note: {type: string, outputBinding: {outputEval: "$('code ' + inputs.code)"}}
+  none: {type: "File[]", outputBinding: {glob: "*.none"}}
+  opt: {type: File?, outputBinding: {glob: "$(['a', 'b'])"}}
