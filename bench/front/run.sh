@@ -7,4 +7,8 @@ set -euo pipefail
 top=$(cd "$(dirname "$0")/../.." && pwd)
 program=${PROGRAM:-$top/$("$top/scripts/build" 2>/dev/null)}
 [ -x "$program" ] || { echo "there is no program: make says why"; exit 1; }
-exec python3 -B "$top/bench/front/front.py" "$(realpath "$program")" "$top/front/deparohi" "${ROUNDS:-30}"
+room=$(mktemp -d)
+trap 'rm -rf "$room"' EXIT
+# As it is installed, with its bytecode.
+"$top/scripts/install" --of "$program" "$room" > /dev/null
+python3 -B "$top/bench/front/front.py" "$room" "${ROUNDS:-30}"

@@ -3,7 +3,6 @@
 import json
 import os
 from typing import Any, Callable, Dict, List, Set
-from urllib.parse import quote
 
 try:
     # It takes a tenth of the time to load that hashlib takes.
@@ -12,6 +11,7 @@ except ImportError:
     from hashlib import sha1
 
 from .fault import ImportFault
+from .places import quoted
 
 REPORT, INPUTS, LITERALS, MADE_BY = "report.txt", "inputs.json", "literals", "made-by"
 LONG = 200_000
@@ -100,7 +100,7 @@ def sum_of(text: str) -> str:
 
 def reference_to(name: str) -> str:
     """Returns the name of a document as the `run` of a step names it."""
-    return quote(name)
+    return quoted(name)
 
 
 def json_text(value: Any) -> str:

@@ -6,7 +6,6 @@ import re
 import signal
 import sys
 from typing import Any, Dict, List, Optional
-from urllib.parse import unquote
 
 from . import program as importer
 from .formats import with_format
@@ -96,11 +95,12 @@ def started(words: List[str], document: str) -> int:
     sys.stderr.flush()
     if words[1] != "run" or not os.path.exists(f"{document}.numbers"):
         os.execvp(words[0], words)
+    import signal
+    import subprocess
+
     # The program ends at these signals by itself, and says so.
     for one in (signal.SIGINT, signal.SIGTERM, signal.SIGHUP):
         signal.signal(one, lambda *_: None)
-    import subprocess
-
     ended = subprocess.run(words, stdout=subprocess.PIPE)
     made = with_numbers(ended.stdout, document)
     if made is None:
@@ -163,6 +163,8 @@ def with_paths(value: Any) -> Any:
         return [with_paths(it) for it in value]
     if not isinstance(value, dict):
         return value
+    from urllib.parse import unquote
+
     made = {key: with_paths(it) for key, it in value.items()}
     location = made.get("location")
     if made.get("class") in ("File", "Directory") and isinstance(location, str) and location.startswith("file://"):

@@ -2,10 +2,11 @@
 
 import os
 from typing import Tuple
-from urllib.parse import quote, unquote_to_bytes
 
 from .pattern import Pattern
 
+# What stands in a URL as it is: of anything else urllib knows how it is written, which takes a while to load.
+BARE = Pattern(r"[A-Za-z0-9/._~-]*\Z")
 SCHEME = Pattern(r"([A-Za-z][A-Za-z0-9+.-]+):")
 UNESCAPED = "/-._~"
 
@@ -16,7 +17,25 @@ class NotAFile(ValueError):
 
 def url_of(path: str) -> str:
     """Returns the `file` URL of an absolute path."""
-    return "file://" + quote(os.fsencode(path), safe=UNESCAPED)
+    return "file://" + quoted(path)
+
+
+def quoted(path: str) -> str:
+    """Returns a path as it stands in a URL."""
+    if BARE.match(path):
+        return path
+    from urllib.parse import quote
+
+    return quote(os.fsencode(path), safe=UNESCAPED)
+
+
+def unquoted(location: str) -> str:
+    """Returns the path of what stands in a URL. Raises UnicodeError."""
+    if "%" not in location:
+        return os.fsdecode(location.encode("utf-8"))
+    from urllib.parse import unquote_to_bytes
+
+    return os.fsdecode(unquote_to_bytes(location))
 
 
 def split_fragment(location: str) -> Tuple[str, str]:
@@ -39,7 +58,7 @@ def path_of(location: str, file: str) -> str:
             rest = slash + tail
         location = rest
     try:
-        path = os.fsdecode(unquote_to_bytes(location))
+        path = unquoted(location)
     except UnicodeError:
         raise NotAFile("a location has half of a pair of surrogates") from None
     if "\0" in path:

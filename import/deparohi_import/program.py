@@ -1,9 +1,9 @@
 """The words of `deparohi-import`, and how it ends."""
 
-import argparse
 import os
 import sys
-from typing import List, Optional, Tuple
+from types import SimpleNamespace
+from typing import Any, List, Optional, Tuple
 
 from . import runner, yaml_library
 from .choices import ENGINES, Choices
@@ -23,7 +23,33 @@ FLAGS = ("--allow-outside", "--leave-javascript", *FORCED.values())
 WRONG_DOCUMENT = Pattern(r"refused: (C1|C4|C8|K\d)\b")
 
 
-def words_of(arguments: List[str]) -> argparse.Namespace:
+def simple_words(arguments: List[str]) -> Optional[SimpleNamespace]:
+    """Returns what words without a value ask for, as the command gives them, or None where argparse has to look at them."""
+    made = SimpleNamespace(output=None, quiet=False, container=None, cores=None, ram=None, environment=[], allow_outside=False, leave_javascript=False, forced=[])
+    options, files, rest = {it: name for name, it in FORCED.items()}, [], iter(arguments)
+    for word in rest:
+        if word == "--":
+            files += list(rest)
+        elif word == "-o":
+            made.output = next(rest, None)
+        elif word in ("--quiet", "--allow-outside", "--leave-javascript"):
+            setattr(made, word[2:].replace("-", "_"), True)
+        elif word in options:
+            made.forced.append(options[word])
+        elif word.startswith("-"):
+            return None
+        else:
+            files.append(word)
+    made.file, made.inputs = (*files, None, None)[:2]
+    return made if made.output and 1 <= len(files) <= 2 else None
+
+
+def words_of(arguments: List[str]) -> Any:
+    found = simple_words(arguments)
+    if found:
+        return found
+    import argparse
+
     parser = argparse.ArgumentParser(
         prog="deparohi-import",
         description="Makes of a CWL document, in YAML or JSON and of v1.0 to v1.2, the JSON that `deparohi run` takes. Prints the paths of the document "
@@ -45,7 +71,7 @@ def words_of(arguments: List[str]) -> argparse.Namespace:
     return parser.parse_args(arguments)
 
 
-def choices_of(words: argparse.Namespace) -> Choices:
+def choices_of(words: Any) -> Choices:
     variables = tuple((name, os.environ[name].replace("\\", "\\\\").replace("$(", "\\$(").replace("${", "\\${")) for name in words.environment if name in os.environ)
     return Choices(words.container, words.cores, words.ram, variables, not words.leave_javascript, words.allow_outside)
 
@@ -84,7 +110,7 @@ def made_of(arguments: List[str]) -> Tuple[int, List[str]]:
     return FAILED, []
 
 
-def imported(words: argparse.Namespace) -> Tuple[int, List[str]]:
+def imported(words: Any) -> Tuple[int, List[str]]:
     folder = Folder(words.output)
     one = Import(folder, set(words.forced), choices_of(words))
     name = one.document(words.file)
