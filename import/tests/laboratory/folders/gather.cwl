@@ -6,5 +6,5 @@ outputs: {dir: Directory}
 expression: |
   ${
     return {"dir": {"class": "Directory", "basename": inputs.name,
-      "listing": inputs.files.concat([{"class": "Directory", "basename": "docs", "listing": inputs.sub}, {"class": "File", "basename": "n.txt", "contents": "n=" + inputs.files.length}])}};
+      "listing": inputs.files.concat([{"class": "Directory", "basename": "notes", "listing": inputs.sub}, {"class": "File", "basename": "n.txt", "contents": "n=" + inputs.files.length}])}};
   }
