@@ -4,7 +4,6 @@ pub mod Demo
 pub mod Paths
 pub mod Plans
 pub mod Runs
-pub mod Seen
 pub mod Showings
 pub mod Sources
 pub mod Tells

@@ -1,10 +1,9 @@
 ghost use Rattle.std.specs.Prelude.{◌≡◌, ◌≢◌, None, Ok, IfOk, IfErr, OnOk, OnErr, map, string_bytes};
 ghost use Rattle.clap.specs.Words.{HasKind, fault_of, kind_of};
 ghost use Rattle.program_words.specs.CommandLine.{Asks, command_line};
-ghost use Rattle.program_words.specs.RecordWords.{wish_of_record};
 ghost use Rattle.program_words.specs.RunWords.{wish_of_run};
 ghost use Rattle.end_words.specs.Told.{IsTold, Says};
-ghost use Rattle.cwl_program.specs.Tells.{Explains, IsEndOf, IsEndOfWords, IsRecordExit, IsRecordFile, IsRunTold, LeadsTo, Tells, asks_why, telling_of};
+ghost use Rattle.cwl_program.specs.Tells.{Explains, IsEndOf, IsEndOfWords, IsRecordExit, IsRunTold, LeadsTo, Tells, asks_why, telling_of};
 
 use crate::caches::{RECORD, within};
 use crate::certificate::exit_of_check;
@@ -109,9 +108,8 @@ pub fn main_run<R: World + Env + Input + Records, O: Write, E: Write>(
 ) -> u8
 where
     R::File: Into<Stdio>,
-    ensures { Tells R.Records R.Kept.Record rt.now (map (λ word. string_bytes word) words.now)
-        path.now (O.contents out.old) (O.contents out.new) (E.contents err.old)
-        (E.contents err.new) result }
+    ensures { Tells (map (λ word. string_bytes word) words.now) path.now (O.contents out.old)
+        (O.contents out.new) (E.contents err.old) (E.contents err.new) result }
 {
     match end_of(rt, words, path, err) {
         Ok(end) => {
@@ -190,8 +188,7 @@ fn end_of<R: World + Env + Input + Records, E: Write>(
 ) -> Result<End, Error>
 where
     R::File: Into<Stdio>,
-    ensures ok { IfOk result (λ end. LeadsTo R.Records R.Kept.Record rt.now
-        (map (λ word. string_bytes word) words.now) path.now
+    ensures ok { IfOk result (λ end. LeadsTo (map (λ word. string_bytes word) words.now) path.now
         end.run.exit end.run.left end.explains end.telling) }
     ensures told { IfOk result (λ end. IsRunTold end.telling (E.contents err.old)
         (E.contents err.new)) }
@@ -224,8 +221,7 @@ fn end_of_choice<R: World + Env + Input + Records, E: Write>(
 ) -> Result<RunEnd, AllocError>
 where
     R::File: Into<Stdio>,
-    ensures end { IfOk result (λ end. IsEndOf R.Records R.Kept.Record rt.now path.now choice.now
-        end.exit end.left) }
+    ensures end { IfOk result (λ end. IsEndOf path.now choice.now end.exit end.left) }
     ensures told { IsRunTold (telling_of choice.now) (E.contents err.old) (E.contents err.new) }
 {
     match choice {
@@ -246,8 +242,8 @@ fn end_of_words<R: World + Env + Input + Records, E: Write>(
 ) -> Result<RunEnd, AllocError>
 where
     R::File: Into<Stdio>,
-    ensures end { IfOk result (λ end. IsEndOfWords R.Records R.Kept.Record rt.now words.now.shows
-        (wish_of_run words.now) path.now end.exit end.left) }
+    ensures end { IfOk result (λ end. IsEndOfWords words.now.shows (wish_of_run words.now) path.now
+        end.exit end.left) }
     ensures told { IsRunTold words.now.telling (E.contents err.old) (E.contents err.new) }
 {
     match words.shows {
@@ -266,7 +262,7 @@ fn bare(alloc: Global, exit: Result<Exit, AllocError>) -> Result<RunEnd, AllocEr
 
 #[tactic(auto, using(crate::specs::Tells::shows))]
 fn exit_of_record<R: World + Records>(rt: &R, words: &RecordWords) -> Result<Exit, AllocError>
-    ensures { IfOk result (IsRecordExit R.Records R.Kept.Record rt.now (wish_of_record words.now)) }
+    ensures { IfOk result IsRecordExit }
 {
     let file = record_at(rt, words.file)?;
     let ending = rt.record_ending(file.as_str(), words.forget);
@@ -275,9 +271,7 @@ fn exit_of_record<R: World + Records>(rt: &R, words: &RecordWords) -> Result<Exi
 }
 
 /// The file of the record that is named: of a folder, that of the cache which it is.
-fn record_at<R: World>(rt: &R, name: &str) -> Result<Text, AllocError>
-    ensures { IfOk result (IsRecordFile name.now) }
-{
+fn record_at<R: World>(rt: &R, name: &str) -> Result<Text, AllocError> {
     match fs::metadata(rt, name) {
         Ok(metadata) if metadata.is_dir() => within(rt.alloc(), name, RECORD),
         _ => Text::from_text(rt.alloc(), name),

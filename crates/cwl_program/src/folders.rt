@@ -3,7 +3,6 @@ ghost use Rattle.std.specs.Prelude.{◌≡◌, [], IfOk};
 ghost use Rattle.run_core.specs.Limits.{IsWithinLimits};
 ghost use Rattle.program_words.specs.RunWords.{wish_of_run};
 ghost use Rattle.cwl_program.specs.Runs.{AreNamed, IsAsked, IsReady, IsRunExit};
-ghost use Rattle.cwl_program.specs.Seen.{seen};
 ghost use Rattle.cwl_program.specs.Tells.{IsRunTold};
 
 use crate::caches::keeps_archive;
@@ -21,7 +20,7 @@ use std::fs;
 use std::io::Write;
 use std::process::Stdio;
 
-/// Makes the work folder, runs over a record, and removes the folder if that is possible, unless it is to stay.
+/// Makes the work folder, runs over a record of which nothing was asked, and removes the folder if that is possible, unless it is to stay.
 pub fn on_disk<R: World, K: Record, E: Write>(
     rt: &R,
     given: &Given,
@@ -34,9 +33,10 @@ where
     R::File: Into<Stdio>,
     requires ready { IsReady call.now.here.now (wish_of_run call.now.words.now) given.now }
     requires named { AreNamed call.now.here.now (wish_of_run call.now.words.now) places.now }
+    requires fresh { K.log rows.old ≡ [] }
     ensures told { IsRunTold call.now.words.now.telling (E.contents err.old) (E.contents err.new) }
     ensures end { IfOk result (λ end. IsRunExit (wish_of_run call.now.words.now) call.now.path.now
-        (seen K.Record rows.old) (seen K.Record rows.new) end.exit end.left) }
+        (K.log rows.new) end.exit end.left) }
 {
     match fs::create_dir(rt, places.work.as_str()) {
         Ok(()) => {
@@ -62,9 +62,10 @@ where
     R::File: Into<Stdio>,
     requires ready { IsReady call.now.here.now (wish_of_run call.now.words.now) given.now }
     requires named { AreNamed call.now.here.now (wish_of_run call.now.words.now) places.now }
+    requires fresh { K.log rows.old ≡ [] }
     ensures told { IsRunTold call.now.words.now.telling (E.contents err.old) (E.contents err.new) }
     ensures end { IfOk result (λ end. IsRunExit (wish_of_run call.now.words.now) call.now.path.now
-        (seen K.Record rows.old) (seen K.Record rows.new) end.exit end.left) }
+        (K.log rows.new) end.exit end.left) }
 {
     match outdir_for(rt, &given.process, &places.outdir) {
         Ok(is_new) => {
@@ -90,9 +91,10 @@ where
     R::File: Into<Stdio>,
     requires ready { IsReady call.now.here.now (wish_of_run call.now.words.now) given.now }
     requires named { AreNamed call.now.here.now (wish_of_run call.now.words.now) places.now }
+    requires fresh { K.log rows.old ≡ [] }
     ensures told { IsRunTold call.now.words.now.telling (E.contents err.old) (E.contents err.new) }
     ensures end { IfOk result (λ end. IsRunExit (wish_of_run call.now.words.now) call.now.path.now
-        (seen K.Record rows.old) (seen K.Record rows.new) end.exit end.left) }
+        (K.log rows.new) end.exit end.left) }
 {
     let options = options_of(rt.alloc(), places, call)?;
     let end = with_options(rt, given, options, places, call.words, rows, err)?;

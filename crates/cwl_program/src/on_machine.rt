@@ -3,7 +3,6 @@ ghost use Rattle.std.specs.Prelude.{◌≡◌, [], None, Ok, IfOk};
 ghost use Rattle.run_core.specs.Limits.{IsWithinLimits};
 ghost use Rattle.workflow_check.specs.Checked.{fault_in};
 ghost use Rattle.cwl_program.specs.Runs.{IsRanOver};
-ghost use Rattle.cwl_program.specs.Seen.{seen};
 ghost use Rattle.cwl_program.specs.Tells.{IsRunTold};
 
 use crate::caches::{keeps_archive, remembers};
@@ -38,9 +37,10 @@ where
     R::File: Into<Stdio>,
     requires accepted { fault_in given.now.process ≡ None }
     requires limits { IsWithinLimits options }
+    requires fresh { K.log rows.old ≡ [] }
     ensures told { IsRunTold words.now.telling (E.contents err.old) (E.contents err.new) }
     ensures exit { IfOk result (λ end. IsRanOver given.now.process given.now.inputs options
-        (seen K.Record rows.old) (seen K.Record rows.new) end.exit) }
+        (K.log rows.new) end.exit) }
 {
     match machine_of(rt, places, words.keep) {
         Ok(host) => { told_of(rt, host, given, options, words, rows, err) }
@@ -99,9 +99,10 @@ where
     requires idle { host.running ≡ [] }
     requires accepted { fault_in given.now.process ≡ None }
     requires limits { IsWithinLimits options }
+    requires fresh { K.log rows.old ≡ [] }
     ensures told { IsRunTold words.now.telling (E.contents err.old) (E.contents err.new) }
     ensures exit { IfOk result (λ end. IsRanOver given.now.process given.now.inputs options
-        (seen K.Record rows.old) (seen K.Record rows.new) end.exit) }
+        (K.log rows.new) end.exit) }
 {
     match words.telling {
         Telling::Nothing => {
@@ -134,8 +135,9 @@ where
     requires idle { host.running ≡ [] }
     requires accepted { fault_in given.now.process ≡ None }
     requires limits { IsWithinLimits options }
+    requires fresh { K.log rows.old ≡ [] }
     ensures { IfOk result (λ end. IsRanOver given.now.process given.now.inputs options
-        (seen K.Record rows.old) (seen K.Record rows.new) end.exit) }
+        (K.log rows.new) end.exit) }
 {
     let (host, memory) = (Heard::new(host, Deaf), memory_of(words));
     let end = ended(rt, host, given, options, &mut teller, memory, rows);
@@ -167,8 +169,9 @@ where
     requires idle { host.running ≡ [] }
     requires accepted { fault_in given.now.process ≡ None }
     requires limits { IsWithinLimits options }
+    requires fresh { K.log rows.old ≡ [] }
     ensures { IfOk result (λ end. IsRanOver given.now.process given.now.inputs options
-        (seen K.Record rows.old) (seen K.Record rows.new) end.exit) }
+        (K.log rows.new) end.exit) }
 {
     let voice = RefCell::new(Voice::new(rt.alloc(), teller));
     let host = Heard::new(host, Speaker::new(&voice));
@@ -193,8 +196,9 @@ where
     requires idle { host.running ≡ [] }
     requires accepted { fault_in given.now.process ≡ None }
     requires limits { IsWithinLimits options }
+    requires fresh { K.log rows.old ≡ [] }
     ensures { IfOk result (λ end. IsRanOver given.now.process given.now.inputs options
-        (seen K.Record rows.old) (seen K.Record rows.new) end.exit) }
+        (K.log rows.new) end.exit) }
 {
     let mut jobs = Jobs::new(rt, listener, memory);
     let report = run(

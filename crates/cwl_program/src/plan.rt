@@ -194,8 +194,7 @@ where
     match rt.open_record(file) {
         Ok(mut rows) => {
             let end = by_rows(rt, given, call, &mut rows, dot);
-            let left = rt.close_record(rows);
-            mem::drop(left);
+            rt.close_record(rows);
             end
         }
         Err(fault) => without_record(rt.alloc(), fault, file),

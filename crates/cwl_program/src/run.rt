@@ -46,8 +46,8 @@ pub fn end_of_process<R: World + Env + Input + Records, E: Write>(
 where
     R::File: Into<Stdio>,
     ensures told { IsRunTold words.now.telling (E.contents err.old) (E.contents err.new) }
-    ensures end { IfOk result (λ end. IsEndOfRun R.Records R.Kept.Record rt.now
-        (wish_of_run words.now) path.now end.exit end.left) }
+    ensures end { IfOk result (λ end. IsEndOfRun (wish_of_run words.now) path.now end.exit
+        end.left) }
 {
     match here_of(rt) {
         Ok(here) => {
@@ -89,8 +89,8 @@ fn end_of_call<R: World + Input + Records, E: Write>(
 where
     R::File: Into<Stdio>,
     ensures told { IsRunTold call.now.words.now.telling (E.contents err.old) (E.contents err.new) }
-    ensures end { IfOk result (λ end. IsEndOfRun R.Records R.Kept.Record rt.now
-        (wish_of_run call.now.words.now) call.now.path.now end.exit end.left) }
+    ensures end { IfOk result (λ end. IsEndOfRun (wish_of_run call.now.words.now) call.now.path.now
+        end.exit end.left) }
 {
     if is_twofold(call.words) {
         return Ok(RunEnd::bare(rt.alloc(), Exit::Fault(Fault::Words)));
@@ -106,8 +106,8 @@ fn end_of_document<R: World + Input + Records, E: Write>(
 where
     R::File: Into<Stdio>,
     ensures told { IsRunTold call.now.words.now.telling (E.contents err.old) (E.contents err.new) }
-    ensures end { IfOk result (λ end. IsEndOfRun R.Records R.Kept.Record rt.now
-        (wish_of_run call.now.words.now) call.now.path.now end.exit end.left) }
+    ensures end { IfOk result (λ end. IsEndOfRun (wish_of_run call.now.words.now) call.now.path.now
+        end.exit end.left) }
 {
     match process_of(rt, call) {
         Ok(process) => on_process(rt, process, call, err),
@@ -175,8 +175,8 @@ where
     R::File: Into<Stdio>,
     requires { IsNamedProcess call.now.here.now (wish_of_run call.now.words.now) process }
     ensures told { IsRunTold call.now.words.now.telling (E.contents err.old) (E.contents err.new) }
-    ensures end { IfOk result (λ end. IsEndOfRun R.Records R.Kept.Record rt.now
-        (wish_of_run call.now.words.now) call.now.path.now end.exit end.left) }
+    ensures end { IfOk result (λ end. IsEndOfRun (wish_of_run call.now.words.now) call.now.path.now
+        end.exit end.left) }
 {
     match inputs_of(rt, call) {
         Ok(inputs) => {
@@ -237,8 +237,8 @@ where
     R::File: Into<Stdio>,
     requires { IsReady call.now.here.now (wish_of_run call.now.words.now) given.now }
     ensures told { IsRunTold call.now.words.now.telling (E.contents err.old) (E.contents err.new) }
-    ensures end { IfOk result (λ end. IsEndOfRun R.Records R.Kept.Record rt.now
-        (wish_of_run call.now.words.now) call.now.path.now end.exit end.left) }
+    ensures end { IfOk result (λ end. IsEndOfRun (wish_of_run call.now.words.now) call.now.path.now
+        end.exit end.left) }
 {
     let places = places_of(rt.alloc(), call)?;
     let end = with_record(rt, given, &places, call, err);

@@ -1,6 +1,3 @@
 pub mod EndsOfRows
 pub mod ForGood
 pub mod LeavesOthers
-pub mod Looked
-pub mod Unshown
-pub mod Whose

@@ -4,5 +4,4 @@ pub mod Lines
 pub mod Endings
 pub mod Forgetting
 pub mod Closing
-pub mod Opened
 pub mod inner

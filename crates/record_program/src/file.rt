@@ -1,22 +1,17 @@
 //! The record of a file.
-ghost use Rattle.std.specs.Prelude.{◌≡◌, ℕ, false, List, [], Option, IfOk, option_map};
-ghost use Rattle.record_program.specs.Closing.{Leaves};
-ghost use Rattle.record_program.specs.Endings.{IsEnding, ShowsNone, Says};
-ghost use Rattle.record_program.specs.Opened.{IsOf, IsRecordOf, IsShown, IsForgotten, EndsWith, EndsOn};
-ghost use Rattle.record_program.specs.declared.ending.Ending.{Ending};
+ghost use Rattle.std.specs.Prelude.{◌≡◌, [], false, IfOk};
+ghost use Rattle.record_program.specs.Endings.{IsEnding, Says};
 
-use crate::closing::{forgotten_for_good, left_of};
-use crate::databases::Databases;
+use crate::closing::forgotten_for_good;
 use crate::ending::Ending;
 use crate::look::{Look, looked, looked_if_there, remove_log};
 use crate::store::shown;
 use crate::tables::as_record;
 use job_record::{JobRecord, RecordFault};
 use job_rows::Record;
-use sqlite::{Connection, File, FileStore, Files};
-use sqlite_disk::Disk;
+use sqlite::{Connection, FileStore};
+use sqlite_std_file::{File, Unknown};
 use std::io::Write;
-use std::rt::Files as Folder;
 use std::{fs, io, mem};
 
 /// The status of a fault.
@@ -27,46 +22,23 @@ pub trait Records {
     /// The record of a file, as a run asks it.
     type Kept: Record + Drop;
 
-    /// What a record leaves where it is closed.
-    type Left: Drop;
-
-    /// The record was opened of the file of this name: its rows are those that the file had.
-    ghost opens: { Self → List ℕ → Self.Kept → Type 0 };
-
-    /// `record` may end so on the file of this name, where the rows whose key has this SHA-1 are forgotten first.
-    ghost ends: { Self → List ℕ → Option (List ℕ) → Ending → Type 0 };
-
-    /// A record of which this is left holds what it held, in its file or in its file and its log.
-    ghost leaves: { Self.Kept → Self.Left → Type 0 };
-
     /// Forgets the rows of a file's record whose key has the SHA-1 `forget`, where one is given, and returns how that and the
     /// rows that are left end the command.
     fn record_ending(&self, file: &str, forget: Option<&str>) -> Ending
-        ensures ending { IsEnding result }
-        ensures whose { ends self.now file.now (option_map (λ sum. sum.now) forget.entry) result };
+        ensures { IsEnding result };
 
     /// Opens the record of a file. Makes one where nothing is there, and in a database that has neither of its tables. What is
     /// refused keeps every byte. No other process can open it until it is closed.
     fn open_record(&self, file: &str) -> Result<Self::Kept, RecordFault>
-        ensures log { IfOk result (λ kept. Self.Kept.log kept ≡ []) }
-        ensures whose { IfOk result (opens self.now file.now) };
+        ensures { IfOk result (λ kept. Self.Kept.log kept ≡ []) };
 
     /// Closes a record in good order, so that the file alone holds it. Where that can't be done its log stays beside the file,
     /// and no row is lost.
-    fn close_record(&self, kept: Self::Kept) -> Self::Left
-        ensures { leaves kept result };
+    fn close_record(&self, kept: Self::Kept);
 }
 
 impl Records for HostRuntime {
     type Kept = JobRecord<FileStore<File>>;
-
-    type Left = Result<Files<File>, FileStore<File>>;
-
-    ghost opens = { λ rt file kept. IsRecordOf ⟦<File as Disk>⟧ (⟦<HostRuntime as Databases>⟧.opens rt file) kept.conn };
-
-    ghost ends = { λ rt file forget ending. EndsOn ⟦<File as Disk>⟧ (⟦<HostRuntime as Databases>⟧.opens rt file) forget ending };
-
-    ghost leaves = { λ kept left. Leaves ⟦<File as Disk>⟧ kept.conn left };
 
     fn record_ending(&self, file: &str, forget: Option<&str>) -> Ending {
         ending_of(self, file, forget)
@@ -76,43 +48,14 @@ impl Records for HostRuntime {
         opened(self, file)
     }
 
-    fn close_record(
-        &self,
-        kept: JobRecord<FileStore<File>>,
-    ) -> Result<Files<File>, FileStore<File>> {
-        left_of(kept.into_connection())
-    }
-}
-
-/// Runs `record` on a file: forgets the rows whose key has the SHA-1 `forget`, where one is given, and writes a line
-/// for each row to `out`, or what went wrong to `err`.
-///
-/// Returns the exit status: 0, or 3 for a fault or a write that fails.
-pub fn main_run<R: Records, O: Write, E: Write>(
-    rt: &R,
-    file: &str,
-    forget: Option<&str>,
-    out: &mut O,
-    err: &mut E,
-) -> u8
-    ensures { Says (R.ends rt.now file.now (option_map (λ sum. sum.now) forget.entry))
-        (O.contents out.old) (O.contents out.new) (E.contents err.old) (E.contents err.new) result }
-{
-    let ending = rt.record_ending(file, forget);
-    match ending.print(out, err) {
-        Ok(()) => ending.status(),
-        Err(_) => FAULT,
+    fn close_record(&self, kept: JobRecord<FileStore<File>>) {
+        let _closed = kept.into_connection().close();
     }
 }
 
 // A file that is absent, or has no byte, is made a record, and so is a database with neither table.
-fn opened<R: AllocGlobal + Folder + Databases>(
-    rt: &R,
-    file: &str,
-) -> Result<JobRecord<FileStore<R::Medium>>, RecordFault>
-    ensures log { IfOk result (λ kept. kept.log.items ≡ []) }
-    ensures whose { IfOk result (λ kept. IsRecordOf R.Medium.Disk (R.opens rt.now file.now)
-        kept.conn) }
+fn opened(rt: &HostRuntime, file: &str) -> Result<JobRecord<FileStore<File>>, RecordFault>
+    ensures { IfOk result (λ kept. kept.log.items ≡ []) }
 {
     match looked_if_there(rt, file) {
         Ok(Some(look)) => opened_at(rt, file, look.new_log(), true),
@@ -122,17 +65,15 @@ fn opened<R: AllocGlobal + Folder + Databases>(
 }
 
 // Where this is refused, the log that it made is removed again.
-fn opened_at<R: AllocGlobal + Folder + Databases>(
-    rt: &R,
+fn opened_at(
+    rt: &HostRuntime,
     file: &str,
     new_log: Option<&str>,
     makes: bool,
-) -> Result<JobRecord<FileStore<R::Medium>>, RecordFault>
-    ensures log { IfOk result (λ kept. kept.log.items ≡ []) }
-    ensures whose { IfOk result (λ kept. IsRecordOf R.Medium.Disk (R.opens rt.now file.now)
-        kept.conn) }
+) -> Result<JobRecord<FileStore<File>>, RecordFault>
+    ensures { IfOk result (λ kept. kept.log.items ≡ []) }
 {
-    match rt.open_database(file) {
+    match Connection::open_from(rt, file, false, Unknown) {
         Ok(conn) => opened_in(rt, conn, new_log, makes),
         Err((error, None)) => Err(RecordFault::Store(error)),
         Err((error, Some(left))) => {
@@ -144,15 +85,14 @@ fn opened_at<R: AllocGlobal + Folder + Databases>(
 }
 
 // What is refused is let go and not closed: closing would write its log into it.
-fn opened_in<F: AllocGlobal + Folder, D: Disk + Drop>(
-    rt: &F,
-    conn: Connection<FileStore<D>>,
+fn opened_in(
+    rt: &HostRuntime,
+    conn: Connection<FileStore<File>>,
     new_log: Option<&str>,
     makes: bool,
-) -> Result<JobRecord<FileStore<D>>, RecordFault>
+) -> Result<JobRecord<FileStore<File>>, RecordFault>
     requires { conn.in_transaction ≡ false }
-    ensures log { IfOk result (λ kept. kept.log.items ≡ []) }
-    ensures of { IfOk result (λ kept. IsOf D.Disk conn kept.conn) }
+    ensures { IfOk result (λ kept. kept.log.items ≡ []) }
 {
     match as_record(rt.alloc(), conn, makes) {
         Ok(record) => Ok(record),
@@ -164,15 +104,30 @@ fn opened_in<F: AllocGlobal + Folder, D: Disk + Drop>(
     }
 }
 
-#[tactic(auto, using(crate::specs::Opened::unshown, crate::proofs::Unshown::is_ending))]
-fn ending_of<R: AllocGlobal + Folder + Databases>(
-    rt: &R,
+/// Runs `record` on a file: forgets the rows whose key has the SHA-1 `forget`, where one is given, and writes a line
+/// for each row to `out`, or what went wrong to `err`.
+///
+/// Returns the exit status: 0, or 3 for a fault or a write that fails.
+pub fn main_run<O: Write, E: Write>(
+    rt: &HostRuntime,
     file: &str,
     forget: Option<&str>,
-) -> Ending
-    ensures ending { IsEnding result }
-    ensures whose { EndsOn R.Medium.Disk (R.opens rt.now file.now)
-        (option_map (λ sum. sum.now) forget.entry) result }
+    out: &mut O,
+    err: &mut E,
+) -> u8
+    ensures { Says (O.contents out.old) (O.contents out.new) (E.contents err.old)
+        (E.contents err.new) result }
+{
+    let ending = rt.record_ending(file, forget);
+    match ending.print(out, err) {
+        Ok(()) => ending.status(),
+        Err(_) => FAULT,
+    }
+}
+
+#[tactic(auto, using(crate::specs::Endings::no_file, crate::specs::Endings::faulty))]
+fn ending_of(rt: &HostRuntime, file: &str, forget: Option<&str>) -> Ending
+    ensures { IsEnding result }
 {
     match fs::metadata(rt, file) {
         Ok(found) if found.is_dir() => Ending::Input,
@@ -181,8 +136,9 @@ fn ending_of<R: AllocGlobal + Folder + Databases>(
     }
 }
 
+#[tactic(auto, using(crate::specs::Endings::no_file, crate::specs::Endings::faulty))]
 fn unseen(error: &io::Error) -> Ending
-    ensures { ShowsNone result }
+    ensures { IsEnding result }
 {
     match error.kind() {
         io::ErrorKind::OutOfMemory => Ending::Record(RecordFault::OutOfMemory),
@@ -190,11 +146,9 @@ fn unseen(error: &io::Error) -> Ending
     }
 }
 
-#[tactic(auto, using(crate::specs::Opened::unshown, crate::proofs::Unshown::is_ending))]
-fn in_file<R: AllocGlobal + Folder + Databases>(rt: &R, file: &str, forget: Option<&str>) -> Ending
-    ensures ending { IsEnding result }
-    ensures whose { EndsOn R.Medium.Disk (R.opens rt.now file.now)
-        (option_map (λ sum. sum.now) forget.entry) result }
+#[tactic(auto, using(crate::specs::Endings::no_file, crate::specs::Endings::faulty))]
+fn in_file(rt: &HostRuntime, file: &str, forget: Option<&str>) -> Ending
+    ensures { IsEnding result }
 {
     match looked(rt, file) {
         Ok(look) => in_look(rt, file, &look, forget),
@@ -203,16 +157,9 @@ fn in_file<R: AllocGlobal + Folder + Databases>(rt: &R, file: &str, forget: Opti
 }
 
 // A file that holds nothing is no record, and is not opened, since the store would begin one in it.
-#[tactic(auto, using(crate::specs::Opened::unshown, crate::proofs::Unshown::is_ending))]
-fn in_look<R: AllocGlobal + Folder + Databases>(
-    rt: &R,
-    file: &str,
-    look: &Look,
-    forget: Option<&str>,
-) -> Ending
-    ensures ending { IsEnding result }
-    ensures whose { EndsOn R.Medium.Disk (R.opens rt.now file.now)
-        (option_map (λ sum. sum.now) forget.entry) result }
+#[tactic(auto, using(crate::specs::Endings::no_file, crate::specs::Endings::faulty))]
+fn in_look(rt: &HostRuntime, file: &str, look: &Look, forget: Option<&str>) -> Ending
+    ensures { IsEnding result }
 {
     if look.is_empty() {
         return Ending::Record(RecordFault::NotARecord);
@@ -223,45 +170,38 @@ fn in_look<R: AllocGlobal + Folder + Databases>(
     }
 }
 
-fn in_record<F: AllocGlobal + Folder, D: Disk + Drop>(
-    rt: &F,
-    kept: JobRecord<FileStore<D>>,
+fn in_record(
+    rt: &HostRuntime,
+    record: JobRecord<FileStore<File>>,
     look: &Look,
     forget: Option<&str>,
 ) -> Ending
-    ensures ending { IsEnding result }
-    ensures ends { EndsWith D.Disk kept.conn (option_map (λ sum. sum.now) forget.entry) result }
+    ensures { IsEnding result }
 {
     match forget {
-        Some(sum) => without_rows(rt, kept, sum),
-        None => only_shown(rt, kept, look.new_log()),
+        Some(sum) => without_rows(rt, record, sum),
+        None => only_shown(rt, record, look.new_log()),
     }
 }
 
 // The file is not written: the record is let go and not closed, so its log stays beside it, and one that was made is removed.
-fn only_shown<F: AllocGlobal + Folder, D: Disk + Drop>(
-    rt: &F,
-    mut kept: JobRecord<FileStore<D>>,
+fn only_shown(
+    rt: &HostRuntime,
+    mut record: JobRecord<FileStore<File>>,
     new_log: Option<&str>,
 ) -> Ending
-    ensures ending { IsEnding result }
-    ensures shown { IsShown D.Disk kept.conn result }
+    ensures { IsEnding result }
 {
-    let ending = shown(rt.alloc(), &mut kept);
+    let ending = shown(rt.alloc(), &mut record);
     remove_log(rt, new_log);
-    mem::drop(kept);
+    mem::drop(record);
     ending
 }
 
-fn without_rows<F: AllocGlobal + Folder, D: Disk + Drop>(
-    rt: &F,
-    kept: JobRecord<FileStore<D>>,
-    sum: &str,
-) -> Ending
-    ensures ending { IsEnding result }
-    ensures forgotten { IsForgotten D.Disk sum.now kept.conn result }
+fn without_rows(rt: &HostRuntime, record: JobRecord<FileStore<File>>, sum: &str) -> Ending
+    ensures { IsEnding result }
 {
-    let (ending, files) = forgotten_for_good(rt.alloc(), kept, sum);
+    let (ending, files) = forgotten_for_good(rt.alloc(), record, sum);
     mem::drop(files);
     ending
 }

@@ -10,7 +10,6 @@
 #![tactic(auto)]
 
 mod closing;
-mod databases;
 mod ending;
 mod file;
 mod head;
@@ -22,7 +21,6 @@ mod tables;
 mod words;
 
 pub use closing::forgotten_for_good;
-pub use databases::Databases;
 pub use ending::{Ending, unclosed};
 pub use file::{Records, main_run};
 pub use head::{Head, head_of, is_bare_log, is_other_log, refusal_of};

@@ -5,7 +5,6 @@ use crate::head::{HEADER, Head, LOG_HEADER, head_of, is_bare_log, is_other_log, 
 use job_record::RecordFault;
 use sqlite::{Error, ErrorCode};
 use std::io::Read;
-use std::rt::Files;
 use std::{fs, io};
 
 const CANNOT_OPEN: RecordFault = RecordFault::Store(Error::SqliteFailure(ErrorCode::CannotOpen));
@@ -34,7 +33,7 @@ impl Look {
 }
 
 /// Looks at a file and at its log, and refuses what no record is.
-pub fn looked<R: AllocGlobal + Files>(rt: &R, file: &str) -> Result<Look, RecordFault> {
+pub fn looked(rt: &HostRuntime, file: &str) -> Result<Look, RecordFault> {
     let head = head_at(rt, file)?;
     let log = log_name(rt, file)?;
     let (has_log, is_other) = log_at(rt, log.as_str())?;
@@ -45,10 +44,7 @@ pub fn looked<R: AllocGlobal + Files>(rt: &R, file: &str) -> Result<Look, Record
 }
 
 /// The same, if the file may be absent.
-pub fn looked_if_there<R: AllocGlobal + Files>(
-    rt: &R,
-    file: &str,
-) -> Result<Option<Look>, RecordFault> {
+pub fn looked_if_there(rt: &HostRuntime, file: &str) -> Result<Option<Look>, RecordFault> {
     match fs::metadata(rt, file) {
         Err(error) if error.kind() == io::ErrorKind::NotFound => Ok(None),
         _ => Ok(Some(looked(rt, file)?)),
@@ -56,13 +52,13 @@ pub fn looked_if_there<R: AllocGlobal + Files>(
 }
 
 /// Removes the log that an opening has made, while the files are held. One that another program has committed to since the look stays.
-pub fn remove_log<R: AllocGlobal + Files>(rt: &R, new_log: Option<&str>) {
+pub fn remove_log(rt: &HostRuntime, new_log: Option<&str>) {
     if let Some(log) = new_log {
         remove_if_bare(rt, log);
     }
 }
 
-fn remove_if_bare<R: AllocGlobal + Files>(rt: &R, log: &str) {
+fn remove_if_bare(rt: &HostRuntime, log: &str) {
     if let Ok(found) = fs::metadata(rt, log) {
         if is_bare_log(found.len()) {
             let _removed = fs::remove_file(rt, log);
@@ -70,14 +66,14 @@ fn remove_if_bare<R: AllocGlobal + Files>(rt: &R, log: &str) {
     }
 }
 
-fn head_at<R: AllocGlobal + Files>(rt: &R, file: &str) -> Result<Head, RecordFault> {
+fn head_at(rt: &HostRuntime, file: &str) -> Result<Head, RecordFault> {
     let mut bytes = [0; HEADER];
     let count = first_bytes(rt, file, &mut bytes)?;
     Ok(head_of(&bytes[..count]))
 }
 
 // As in SQLite, the log lies beside the file that a link leads to.
-fn log_name<R: AllocGlobal + Files>(rt: &R, file: &str) -> Result<String, RecordFault> {
+fn log_name(rt: &HostRuntime, file: &str) -> Result<String, RecordFault> {
     match fs::canonicalize(rt, file) {
         Ok(path) => Ok(format!(in rt.alloc(); "{}-wal", path.as_str())?),
         Err(error) => Err(of_io(&error)),
@@ -85,7 +81,7 @@ fn log_name<R: AllocGlobal + Files>(rt: &R, file: &str) -> Result<String, Record
 }
 
 // Whether the log is there, and whether its pages have another size than a record's.
-fn log_at<R: AllocGlobal + Files>(rt: &R, log: &str) -> Result<(bool, bool), RecordFault> {
+fn log_at(rt: &HostRuntime, log: &str) -> Result<(bool, bool), RecordFault> {
     match fs::symlink_metadata(rt, log) {
         Ok(_) => Ok((true, is_other_at(rt, log)?)),
         Err(error) if error.kind() == io::ErrorKind::NotFound => Ok((false, false)),
@@ -93,17 +89,13 @@ fn log_at<R: AllocGlobal + Files>(rt: &R, log: &str) -> Result<(bool, bool), Rec
     }
 }
 
-fn is_other_at<R: AllocGlobal + Files>(rt: &R, log: &str) -> Result<bool, RecordFault> {
+fn is_other_at(rt: &HostRuntime, log: &str) -> Result<bool, RecordFault> {
     let mut bytes = [0; LOG_HEADER];
     let count = first_bytes(rt, log, &mut bytes)?;
     Ok(is_other_log(&bytes[..count]))
 }
 
-fn first_bytes<R: AllocGlobal + Files>(
-    rt: &R,
-    path: &str,
-    bytes: &mut [u8],
-) -> Result<usize, RecordFault>
+fn first_bytes(rt: &HostRuntime, path: &str, bytes: &mut [u8]) -> Result<usize, RecordFault>
     ensures { IfOk result (λ count. count ≤ length bytes.old) }
 {
     match read_first(rt, path, bytes) {
@@ -113,7 +105,7 @@ fn first_bytes<R: AllocGlobal + Files>(
 }
 
 // Reads what a regular file begins with. No other is opened, since a pipe would wait.
-fn read_first<R: AllocGlobal + Files>(rt: &R, path: &str, bytes: &mut [u8]) -> io::Result<usize>
+fn read_first(rt: &HostRuntime, path: &str, bytes: &mut [u8]) -> io::Result<usize>
     ensures { IfOk result (λ count. count ≤ length bytes.old) }
 {
     if !fs::metadata(rt, path)?.is_file() {
