@@ -141,6 +141,25 @@ class Laboratory(InFolder):
             # What is computed again costs less than its files.
             self.assertNotIn("nothing is recorded", ended.stderr)
 
+    def test_one_sample_replaced_computes_what_hangs_on_it(self) -> None:
+        asked = "requirements: {InlineJavascriptRequirement: {}}"
+        each = f"{{class: CommandLineTool, {asked}, baseCommand: [sh, -c, 'sleep 0.5; cat \"$0\"'], inputs: {{f: File}}, arguments: ['$(inputs.f.path)'], stdout: $(inputs.f.nameroot).out, outputs: {{o: stdout}}}}"
+        merge = f"{{class: CommandLineTool, {asked}, baseCommand: [sh, -c, 'sleep 0.5; cat \"$@\"', sh], inputs: {{fs: 'File[]'}}, arguments: ['$(inputs.fs.map(function (f) {{ return f.path; }}))'], stdout: all, outputs: {{o: stdout}}}}"
+        text = "cwlVersion: v1.2\nclass: Workflow\nrequirements: {ScatterFeatureRequirement: {}}\ninputs: {fs: 'File[]'}\noutputs: {o: {type: File, outputSource: merge/o}}\n"
+        text += f"steps:\n  each: {{scatter: f, in: {{f: fs}}, out: [o], run: {each}}}\n  merge: {{in: {{fs: each/o}}, out: [o], run: {merge}}}\n"
+        self.write("main.cwl", text)
+        self.write("job.yml", "fs: [{class: File, path: a.txt}, {class: File, path: b.txt}, {class: File, path: c.txt}]\n")
+        for name in "abc":
+            self.write(f"{name}.txt", name)
+        for at, said in enumerate(("0 loaded, 4 computed, 0 not needed", "1 loaded, 0 computed, 3 not needed", "2 loaded, 2 computed, 0 not needed")):
+            if at == 2:
+                self.write("b.txt", "another")
+            ended = self.run_front("run", "--explain", "--cache", "cache", "--work", f"work-{at}", "--outdir", f"out-{at}", "main.cwl", "job.yml")
+            self.assertEqual(0, ended.returncode, ended.stderr)
+            self.assertIn(f"4 jobs: {said}", ended.stderr)
+        with open(os.path.join(self.path, "out-2", "all"), encoding="utf-8") as it:
+            self.assertEqual("aanotherc", it.read())
+
     def test_json_goes_to_the_program(self) -> None:
         self.write("main.json", json.dumps({"cwlVersion": "v1.2", "class": "CommandLineTool", "baseCommand": "echo", "inputs": [], "outputs": {"o": "stdout"}}))
         ended = self.run_front("run", "--quiet", "--outdir", "results", "main.json", PATH="/nowhere-python:/usr/bin:/bin")
