@@ -11,9 +11,11 @@ from typing import Any, Dict, Iterator, Set, Tuple
 from .expressions import parameters
 from .flow import Peek, kinds_of
 from .forms import entry_of, loads_contents
-from .kinds import mentions
+from .in_job import texts_below
+from .kinds import may_be_text, mentions
 from .marked import Fields, Items, object_of
 from .names import short, source_name
+from .references import lengths
 
 MOST_NESTED = 64
 
@@ -76,6 +78,17 @@ def links_of(step: Fields, raw: Fields) -> Iterator[Tuple[str, str]]:
         for one in source if isinstance(source, Items) else [source]:
             if isinstance(one, str):
                 yield short(key), source_name(one, *whole)
+
+
+def lengths_of_texts(raw: Fields, kinds: Dict[str, Any]) -> Iterator[Tuple[Any, Any]]:
+    """Yields the places in a tool, with these types of inputs, where the length of a text is asked for."""
+    for name, it in parameters(raw.get("inputs")):
+        binding = it.get("inputBinding") if isinstance(it, Fields) else None
+        if isinstance(binding, Fields) and isinstance(binding.get("valueFrom"), str) and "self" in lengths(binding["valueFrom"]) and may_be_text(kinds[short(name)]):
+            yield binding, "valueFrom"
+    for node, key, text in texts_below(raw):
+        if any(may_be_text(kinds.get(name)) for name in lengths(text)):
+            yield node, key
 
 
 def pushed_down(raw: Fields) -> Fields:

@@ -5,18 +5,18 @@ from typing import Any, Callable, Dict, NamedTuple, Optional, Set, Tuple
 
 from .checking import Checker
 from .choices import Choices
-from .contents import is_read_there, pushed_down
+from .contents import is_read_there, lengths_of_texts, pushed_down
 from .expressions import parameters
 from .findings import IGNORED, LEFT, REWRITTEN, WRONG, Findings
-from .flow import Flow, kinds_of, list_type
-from .in_job import InJob, texts_below
+from .flow import kinds_of, list_type
+from .in_job import InJob
 from .javascript import JavaScript, Library
-from .kinds import are_alike, encoded, may_be_text
+from .kinds import encoded
 from .links import lone_picks
 from .marked import Fields, Items, copied, object_of
 from .names import class_name, short, source_name
 from .plans import Evaluator
-from .references import JAVASCRIPT, faults, has_expression, lengths
+from .references import JAVASCRIPT, faults, has_expression
 from .requirements import Asked, Requirements, ToolTexts, entries
 from .shell import command_of
 from .secondary import patterns_in_place
@@ -293,18 +293,8 @@ class Rewriter:
         if shell:
             command_of(made, raw)
         self.software(made, asked)
-        self.lengths(raw)
-
-    def lengths(self, raw: Fields) -> None:
-        """Finds where the length of a text is asked for, which only JavaScript knows."""
-        kinds = kinds_of(raw.get("inputs"), self.types.names)
-        for name, it in parameters(raw.get("inputs")):
-            binding = it.get("inputBinding") if isinstance(it, Fields) else None
-            if isinstance(binding, Fields) and isinstance(binding.get("valueFrom"), str) and "self" in lengths(binding["valueFrom"]) and may_be_text(kinds[short(name)]):
-                self.findings.add(LEFT, binding, "valueFrom", JAVASCRIPT, "only JavaScript knows the length of a text")
-        for node, key, text in texts_below(raw):
-            if any(may_be_text(kinds.get(name)) for name in lengths(text)):
-                self.findings.add(LEFT, node, key, JAVASCRIPT, "only JavaScript knows the length of a text")
+        for node, key in lengths_of_texts(raw, kinds_of(raw.get("inputs"), self.types.names)):
+            self.findings.add(LEFT, node, key, JAVASCRIPT, "only JavaScript knows the length of a text")
 
     def software(self, made: Fields, asked: Dict[str, Asked]) -> None:
         """Gives a tool whose container and software are left to this machine an input of their names, so that they tell jobs apart."""
