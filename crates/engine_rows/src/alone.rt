@@ -10,6 +10,7 @@ ghost use Rattle.run_core.specs.Core.{Took};
 ghost use Rattle.run_rules.specs.Answers.{CanTell, MayAnswer};
 ghost use Rattle.run_rules.specs.declared.request.Request.{Request as Asks};
 
+use collected_outputs::are_paths;
 use cwl_value::{JobPlace, place_text};
 use plain_data::{Items, Text};
 use proc_host::{ChildEnd, HostAnswer, HostFault, HostRequest};
@@ -144,11 +145,22 @@ pub fn answer_to(
         HostRequest::Stage(_, _) => Ok(HostAnswer::Done),
         HostRequest::Start(_) => Ok(started(flying, chance)),
         HostRequest::Collect => Ok(ended(flying, chance)),
-        HostRequest::Scan(_) => Ok(HostAnswer::Listed(left_at(alloc, place)?)),
+        HostRequest::Scan(_) => Ok(listed(left_at(alloc, place)?)),
         HostRequest::Head(_, _) => Ok(HostAnswer::FirstBytes(Items::new(alloc))),
         HostRequest::Fetch(_, _, _) => Ok(HostAnswer::Fetched(Items::new(alloc))),
         HostRequest::Store(_, _, _) => Ok(HostAnswer::Done),
         HostRequest::Deliver(_) => Ok(HostAnswer::Done),
+    }
+}
+
+// What a scan answers that found this: each name has to be a path.
+fn listed(found: Items<Found>) -> HostAnswer
+    ensures { (flying : _) (folder : _) → CanAnswer flying (Call.Scan folder) result }
+{
+    if are_paths(found.as_slice()) {
+        HostAnswer::Listed(found)
+    } else {
+        HostAnswer::Failed(HostFault::Scan)
     }
 }
 

@@ -1,5 +1,5 @@
 //! Runs of generated workflows, in which each plan is compared with the best of all plans.
-ghost use Rattle.std.specs.Prelude.{◌≡◌, ◌≢◌, IfOk, OnOk};
+ghost use Rattle.std.specs.Prelude.{◌≡◌, ◌≢◌, IfOk, IfSome, OnOk};
 ghost use Rattle.proc_host.specs.Answers.{CanAnswer};
 ghost use Rattle.run_rules.specs.Answers.{CanTell, MayAnswer};
 ghost use Rattle.run_rules.specs.declared.request.Request.{Request as Asks};
@@ -10,6 +10,7 @@ use crate::generator::row_of;
 use crate::run::{Case, case_of, core_of};
 use cwl_value::JobPlace;
 use job_rows::{MemoryRecord, Record, Row as Kept};
+use plain_data::Text;
 use plan_checker::{Charges, Graph, Plan, check, read_certificate, write_certificate};
 use proc_host::{HostAnswer, HostRequest};
 use row_io::{AnswerText, Row, RowFault};
@@ -245,7 +246,7 @@ fn told(
     ensures { IfOk result (CanTell request.now) }
 {
     match request {
-        RecordRequest::Find(key) => Ok(RecordAnswer::Found(rows.find(key).unwrap_or(None))),
+        RecordRequest::Find(key) => Ok(RecordAnswer::Found(found_in(rows, key))),
         RecordRequest::Put(row) => {
             keep(alloc, row, chance, rows)?;
             Ok(RecordAnswer::Done)
@@ -254,6 +255,16 @@ fn told(
             let _dropped = rows.drop_archive(key);
             Ok(RecordAnswer::Done)
         }
+    }
+}
+
+/// The row of a key, if the record gives one.
+fn found_in(rows: &mut MemoryRecord, key: &Text) -> Option<Kept>
+    ensures { IfSome result (λ row. row.key ≡ key.now) }
+{
+    match rows.find(key) {
+        Ok(found) => found,
+        Err(_) => None,
     }
 }
 

@@ -1,5 +1,5 @@
 use Rattle.std.proofs.Common.{[], arith, refl}
-use Rattle.proc_host.specs.Answers.{is_delivered, is_fetched, is_listed, is_measured, is_read, is_staged, is_stored}
+use Rattle.proc_host.specs.Answers.{is_delivered, is_fetched, is_measured, is_read, is_staged, is_stored}
 use Rattle.engine_rows.proofs.alone.answer_to.Goals as goal
 
 pub returns-in_ok-one_byte-in-Measure : goal.returns-in_ok-one_byte-in-Measure
@@ -7,9 +7,6 @@ returns-in_ok-one_byte-in-Measure c = rw c.in-Measure.is (is_measured _ _)
 
 pub returns-in-Stage : goal.returns-in-Stage
 returns-in-Stage c = rw c.in-Stage.is (is_staged _ _)
-
-pub returns-in_ok-left_at-in-Scan : goal.returns-in_ok-left_at-in-Scan
-returns-in_ok-left_at-in-Scan c = rw c.in-Scan.is (is_listed _ _)
 
 pub returns-in-Head : goal.returns-in-Head
 returns-in-Head c = rw (c.in-Head.is, c.new.ensures) (is_read c.in-Head.field-0 c.in-Head.field-1 [] (omega arith))

@@ -3,7 +3,7 @@ use Rattle.run_rules.specs.Answers.{is_dropped, is_found, is_put}
 use Rattle.engine_rows.proofs.alone.told.Goals as goal
 
 pub returns-in-Find : goal.returns-in-Find
-returns-in-Find c = rw c.in-Find.is (is_found _ None)
+returns-in-Find c = rw c.in-Find.is (is_found _ None tt)
 
 pub returns-in-Put : goal.returns-in-Put
 returns-in-Put c = rw c.in-Put.is (is_put _)

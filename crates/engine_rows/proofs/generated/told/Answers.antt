@@ -2,7 +2,7 @@ use Rattle.run_rules.specs.Answers.{is_dropped, is_found, is_put}
 use Rattle.engine_rows.proofs.generated.told.Goals as goal
 
 pub returns-in-Find : goal.returns-in-Find
-returns-in-Find c = rw c.in-Find.is (is_found _ _)
+returns-in-Find c = rw c.in-Find.is (is_found _ _ c.found_in.ensures)
 
 pub returns-in_ok-keep-in-Put : goal.returns-in_ok-keep-in-Put
 returns-in_ok-keep-in-Put c = rw c.in-Put.is (is_put _)
