@@ -1,1 +1,3 @@
+pub mod Others
+pub mod Processors
 pub mod Slots

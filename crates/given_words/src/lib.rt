@@ -1,8 +1,8 @@
 //! What is made of the words of a command line before they are read.
 //!
 //! - `with_slots` puts the number of processors if words ask for all of them, and changes nothing else.
-//! - `processors_in` counts processors in what the kernel lists, from 1 to `MOST_SLOTS`.
-//! - `answer_to` has what does the same here as an option of another runner.
+//! - `processors_in` counts processors in what the kernel lists, from 1 to `MOST_SLOTS` (`specs/Processors.antt`).
+//! - `answer_to` has what does the same here as an option of another runner (`specs/Others.antt`).
 #![tactic(auto)]
 
 mod other_words;

@@ -15,6 +15,7 @@ mod sums;
 mod texts;
 mod tree;
 mod values;
+mod words;
 
 use row_io::{Row, RowFault};
 use std::alloc::Global;
@@ -44,6 +45,7 @@ fn of_files(alloc: Global, row: &Row) -> Result<String, RowFault> {
         "from_entries" | "insert" | "get" => keys::answer(alloc, row),
         "order" | "texts" => texts::answer(alloc, row),
         "tree" => tree::answer(alloc, row),
+        "processors_in" | "answer_to" => words::answer(alloc, row),
         _ => files::answer(alloc, row),
     }
 }
