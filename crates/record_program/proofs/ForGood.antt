@@ -12,7 +12,7 @@ use Rattle.record_program.specs.Forgetting.{ForgetsFirst}
 use Rattle.record_program.specs.Closing.{ForgetsForGood, ClosesAs}
 
 pub for_good : {D : Type 0} (g : Ghosts D) (sum : List ℕ) (old last : Held (FileStore D g)) (before after : Ending) (files : Option (Files D))
-    → (HasCleanDisk (file_state last) → IsRecord (file_state old) → ForgetsFirst over_files old last sum before) → ClosesAs g last before after files → ForgetsForGood g sum old after files
-for_good g sum old last before after (Some files) forgets closes =
-    λ clean it. let copied = closes.1 clean in (last, subst (λ e. ForgetsFirst over_files old last sum e) (sym closes.0) (forgets copied.was_clean it), copied)
-for_good g sum old last before after None forgets closes = closes
+    → (HasCleanDisk (file_state last) → HasCleanDisk (file_state old)) → (HasCleanDisk (file_state last) → IsRecord (file_state old) → ForgetsFirst over_files old last sum before) → ClosesAs g last before after files → ForgetsForGood g sum old after files
+for_good g sum old last before after (Some files) was_clean forgets closes =
+    λ clean. let copied = closes.1 clean in (was_clean copied.was_clean, λ it. (last, subst (λ e. ForgetsFirst over_files old last sum e) (sym closes.0) (forgets copied.was_clean it), copied))
+for_good g sum old last before after None was_clean forgets closes = closes

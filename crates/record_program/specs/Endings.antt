@@ -21,6 +21,12 @@ pub data IsEnding : Ending → Type 0 where
   no_file : IsEnding Input
   faulty : (fault : RecordFault) → IsEnding (Record fault)
 
+-- no row is shown
+abbrev pub ShowsNone : Ending → Type 0
+ShowsNone (Rows lines) = ⊥
+ShowsNone Input = Unit {0}
+ShowsNone (Record fault) = Unit {0}
+
 abbrev pub status_of : Ending → ℕ
 status_of (Rows lines) = 0
 status_of Input = 3
@@ -42,7 +48,7 @@ Prints (Rows lines) out out_new err err_new = Appends out out_new lines × (err_
 Prints Input out out_new err err_new = Appends err err_new (codes "fault: input\n") × (out_new ≡ out)
 Prints (Record fault) out out_new err err_new = Appends err err_new (codes "fault: " ++ code_of fault ++ codes "\n") × (out_new ≡ out)
 
--- what is written and answered: an ending is said with its status, or a write failed
-pub data Says (out out_new err err_new : Held) : ℕ → Type 0 where
-  says : (ending : Ending) → IsEnding ending → Prints ending out out_new err err_new → Says out out_new err err_new (status_of ending)
-  fails : Says out out_new err err_new 3
+-- what is written and answered: such an ending is said with its status, or a write failed
+pub data Says (May : Ending → Type 0) (out out_new err err_new : Held) : ℕ → Type 0 where
+  says : (ending : Ending) → IsEnding ending → May ending → Prints ending out out_new err err_new → Says May out out_new err err_new (status_of ending)
+  fails : Says May out out_new err err_new 3

@@ -1,13 +1,15 @@
 -- What the first bytes of a file and of its log say: SQLite, "Database File Format", 1.3 "The Database Header" and 4.1 "WAL File Format".
 -- Numbers have their highest byte first.
-use Rattle.std.specs.Prelude.{ℕ, ◌+◌, ◌==◌, Bool, not, ◌&&◌, ◌||◌, if◌then◌else◌, List, [], ◌∷◌, ◌++◌, length, take, nat_lt, nat_le, slice_index, codes, bytes_eq, Option, Some, None}
+use Rattle.std.specs.Prelude.{ℕ, ◌+◌, ◌==◌, Bool, not, ◌&&◌, ◌||◌, if◌then◌else◌, List, [], ◌∷◌, ◌++◌, length, take, nat_lt, nat_le, slice_index, nat_eq, codes, bytes_eq, Option, Some, None}
 use Rattle.std.specs.List.{list_all}
 use Rattle.sqlite.specs.declared.error.Error.TheVariants.{SqliteFailure}
 use Rattle.sqlite.specs.declared.error.ErrorCode.TheVariants as code
 use Rattle.job_record.specs.declared.fault.RecordFault.{RecordFault}
 use Rattle.job_record.specs.declared.fault.RecordFault.TheVariants.{NotARecord, Store}
 use Rattle.record_program.specs.declared.head.Head.{Head}
-use Rattle.record_program.specs.declared.head.Head.TheVariants.{Blank, NoDatabase, OtherPages, OtherText, AutoVacuum, Database}
+use Rattle.record_program.specs.declared.head.LogHead.{LogHead}
+use Rattle.record_program.specs.declared.head.LogHead.TheVariants as log
+use Rattle.record_program.specs.declared.head.Head.TheVariants.{Blank, Begun, NoDatabase, OtherPages, OtherText, AutoVacuum, Database}
 
 -- ---- the header of the database file: 100 bytes
 
@@ -35,9 +37,13 @@ form_of bytes =
 abbrev pub is_blank : List ℕ → Bool
 is_blank bytes = list_all (λ byte. byte == 0) bytes
 
--- what a file is by its first 100 bytes, or by all that it has where they are fewer
+-- the first byte of a new database is written last
+abbrev pub is_begun : List ℕ → Bool
+is_begun bytes = not (nat_eq (length bytes) 0) && (slice_index bytes 0 == 0)
+
+-- what a file is by its first 100 bytes, or by all that it has if they are fewer
 abbrev pub head_of : List ℕ → Head
-head_of bytes = if is_blank bytes then Blank else (if nat_lt (length bytes) 100 then NoDatabase else form_of bytes)
+head_of bytes = if is_blank bytes then Blank else (if is_begun bytes then Begun else (if nat_lt (length bytes) 100 then NoDatabase else form_of bytes))
 
 -- ---- the header of the log: 32 bytes
 
@@ -51,9 +57,10 @@ abbrev pub has_log_pages : List ℕ → Bool
 has_log_pages bytes =
     (slice_index bytes 8 == 0) && ((slice_index bytes 9 == 0) && ((slice_index bytes 10 == 0x10) && (slice_index bytes 11 == 0)))
 
--- a log whose pages have another size
-abbrev pub is_other_log : List ℕ → Bool
-is_other_log bytes = nat_le 32 (length bytes) && (is_log bytes && not (has_log_pages bytes))
+-- what a log is by its first 32 bytes, or by all that it has if they are fewer
+abbrev pub log_of : List ℕ → LogHead
+log_of bytes =
+    if nat_lt (length bytes) 32 || not (is_log bytes) then log.NoLog else (if has_log_pages bytes then log.Log else log.OtherPages)
 
 -- a log with no room for a frame: its header, that of a frame, 24 bytes, and a page of 4,096; it commits nothing
 abbrev pub is_bare_log : ℕ → Bool
@@ -61,14 +68,28 @@ is_bare_log bytes = nat_lt bytes (32 + 24 + 4096)
 
 -- ---- why such a file is not opened
 
-abbrev pub of_log : Bool → Option RecordFault
-of_log other_log = if other_log then Some NotARecord else None
+abbrev pub of_log : LogHead → Option RecordFault
+of_log log.Absent = None
+of_log log.NoLog = None
+of_log log.OtherPages = Some NotARecord
+of_log log.Log = None
+
+abbrev pub no_database : RecordFault
+no_database = Store (SqliteFailure code.NotADatabase)
+
+-- a database whose making was cut off has a log, which is begun before it
+abbrev pub of_begun : LogHead → Option RecordFault
+of_begun log.Absent = Some no_database
+of_begun log.NoLog = Some no_database
+of_begun log.OtherPages = Some no_database
+of_begun log.Log = None
 
 -- R1 for a database that no record is, and R4 for what is none
-abbrev pub refusal_of : Head → Bool → Option RecordFault
-refusal_of Blank other_log = of_log other_log
-refusal_of NoDatabase other_log = Some (Store (SqliteFailure code.NotADatabase))
-refusal_of OtherPages other_log = Some NotARecord
-refusal_of OtherText other_log = Some NotARecord
-refusal_of AutoVacuum other_log = Some NotARecord
-refusal_of Database other_log = of_log other_log
+abbrev pub refusal_of : Head → LogHead → Option RecordFault
+refusal_of Blank beside = of_log beside
+refusal_of Begun beside = of_begun beside
+refusal_of NoDatabase beside = Some no_database
+refusal_of OtherPages beside = Some NotARecord
+refusal_of OtherText beside = Some NotARecord
+refusal_of AutoVacuum beside = Some NotARecord
+refusal_of Database beside = of_log beside

@@ -4,4 +4,5 @@ pub mod Lines
 pub mod Endings
 pub mod Forgetting
 pub mod Closing
+pub mod Opened
 pub mod inner

@@ -1,6 +1,6 @@
-//! A record in files that is closed once rows of it were forgotten, over any disk.
+//! A record in files that is closed, also once rows of it were forgotten, over any disk.
 ghost use Rattle.record_program.specs.Endings.{IsEnding};
-ghost use Rattle.record_program.specs.Closing.{ForgetsForGood, ClosesAs};
+ghost use Rattle.record_program.specs.Closing.{ForgetsForGood, ClosesAs, Leaves};
 
 use crate::ending::{Ending, unclosed};
 use crate::store::forgotten;
@@ -37,5 +37,15 @@ fn closed<D: Disk + Drop>(
             mem::drop(store);
             (unclosed(ending, error), None)
         }
+    }
+}
+
+/// Closes a database in good order. Where that can't be done its log stays beside its file.
+pub fn left_of<D: Disk + Drop>(conn: Connection<FileStore<D>>) -> Result<Files<D>, FileStore<D>>
+    ensures { Leaves D.Disk conn result }
+{
+    match conn.close_files() {
+        Ok(files) => Ok(files),
+        Err((_, store)) => Err(store),
     }
 }

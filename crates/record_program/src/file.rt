@@ -1,17 +1,23 @@
 //! The record of a file.
-ghost use Rattle.std.specs.Prelude.{◌≡◌, [], false, IfOk};
-ghost use Rattle.record_program.specs.Endings.{IsEnding, Says};
+ghost use Rattle.std.specs.Prelude.{◌≡◌, ℕ, false, List, [], Option, IfOk, option_map};
+ghost use Rattle.record_program.specs.Closing.{Leaves};
+ghost use Rattle.record_program.specs.Endings.{IsEnding, ShowsNone, Says};
+ghost use Rattle.record_program.specs.Opened.{IsOf, IsRecordOf, IsShown, IsForgotten, EndsWith, EndsOn};
+ghost use Rattle.record_program.specs.declared.ending.Ending.{Ending};
 
-use crate::closing::forgotten_for_good;
+use crate::closing::{forgotten_for_good, left_of};
+use crate::databases::Databases;
 use crate::ending::Ending;
+use crate::kept::{FileLeft, FileRecord};
 use crate::look::{Look, looked, looked_if_there, remove_log};
 use crate::store::shown;
 use crate::tables::as_record;
 use job_record::{JobRecord, RecordFault};
 use job_rows::Record;
-use sqlite::{Connection, FileStore};
-use sqlite_std_file::{File, Unknown};
+use sqlite::{Connection, File, FileStore};
+use sqlite_disk::Disk;
 use std::io::Write;
+use std::rt::Files as Folder;
 use std::{fs, io, mem};
 
 /// The status of a fault.
@@ -22,40 +28,94 @@ pub trait Records {
     /// The record of a file, as a run asks it.
     type Kept: Record + Drop;
 
+    /// What a record leaves where it is closed.
+    type Left: Drop;
+
+    /// The record was opened of the file of this name: its rows are those that the file had.
+    ghost opens: { Self → List ℕ → Self.Kept → Type 0 };
+
+    /// `record` may end so on the file of this name, where the rows whose key has this SHA-1 are forgotten first.
+    ghost ends: { Self → List ℕ → Option (List ℕ) → Ending → Type 0 };
+
+    /// A record of which this is left holds what it held, in its file or in its file and its log.
+    ghost leaves: { Self.Kept → Self.Left → Type 0 };
+
     /// Forgets the rows of a file's record whose key has the SHA-1 `forget`, where one is given, and returns how that and the
     /// rows that are left end the command.
     fn record_ending(&self, file: &str, forget: Option<&str>) -> Ending
-        ensures { IsEnding result };
+        ensures ending { IsEnding result }
+        ensures whose { ends self.now file.now (option_map (λ sum. sum.now) forget.entry) result };
 
     /// Opens the record of a file. Makes one where nothing is there, and in a database that has neither of its tables. What is
     /// refused keeps every byte. No other process can open it until it is closed.
     fn open_record(&self, file: &str) -> Result<Self::Kept, RecordFault>
-        ensures { IfOk result (λ kept. Self.Kept.log kept ≡ []) };
+        ensures log { IfOk result (λ kept. Self.Kept.log kept ≡ []) }
+        ensures whose { IfOk result (opens self.now file.now) };
 
     /// Closes a record in good order, so that the file alone holds it. Where that can't be done its log stays beside the file,
     /// and no row is lost.
-    fn close_record(&self, kept: Self::Kept);
+    fn close_record(&self, kept: Self::Kept) -> Self::Left
+        ensures { leaves kept result };
 }
 
 impl Records for HostRuntime {
-    type Kept = JobRecord<FileStore<File>>;
+    type Kept = FileRecord;
+
+    type Left = FileLeft;
+
+    ghost opens = { λ rt file kept. IsRecordOf ⟦<File as Disk>⟧ (⟦<HostRuntime as Databases>⟧.opens rt file) kept.rows.conn };
+
+    ghost ends = { λ rt file forget ending. EndsOn ⟦<File as Disk>⟧ (⟦<HostRuntime as Databases>⟧.opens rt file) forget ending };
+
+    ghost leaves = { λ kept left. Leaves ⟦<File as Disk>⟧ kept.rows.conn left.left };
 
     fn record_ending(&self, file: &str, forget: Option<&str>) -> Ending {
         ending_of(self, file, forget)
     }
 
-    fn open_record(&self, file: &str) -> Result<JobRecord<FileStore<File>>, RecordFault> {
-        opened(self, file)
+    fn open_record(&self, file: &str) -> Result<FileRecord, RecordFault> {
+        match opened(self, file) {
+            Ok(rows) => Ok(FileRecord { rows }),
+            Err(fault) => Err(fault),
+        }
     }
 
-    fn close_record(&self, kept: JobRecord<FileStore<File>>) {
-        let _closed = kept.into_connection().close();
+    fn close_record(&self, kept: FileRecord) -> FileLeft {
+        FileLeft {
+            left: left_of(kept.into_connection()),
+        }
+    }
+}
+
+/// Runs `record` on a file: forgets the rows whose key has the SHA-1 `forget`, where one is given, and writes a line
+/// for each row to `out`, or what went wrong to `err`.
+///
+/// Returns the exit status: 0, or 3 for a fault or a write that fails.
+pub fn main_run<R: Records, O: Write, E: Write>(
+    rt: &R,
+    file: &str,
+    forget: Option<&str>,
+    out: &mut O,
+    err: &mut E,
+) -> u8
+    ensures { Says (R.ends rt.now file.now (option_map (λ sum. sum.now) forget.entry))
+        (O.contents out.old) (O.contents out.new) (E.contents err.old) (E.contents err.new) result }
+{
+    let ending = rt.record_ending(file, forget);
+    match ending.print(out, err) {
+        Ok(()) => ending.status(),
+        Err(_) => FAULT,
     }
 }
 
 // A file that is absent, or has no byte, is made a record, and so is a database with neither table.
-fn opened(rt: &HostRuntime, file: &str) -> Result<JobRecord<FileStore<File>>, RecordFault>
-    ensures { IfOk result (λ kept. kept.log.items ≡ []) }
+fn opened<R: AllocGlobal + Folder + Databases>(
+    rt: &R,
+    file: &str,
+) -> Result<JobRecord<FileStore<R::Medium>>, RecordFault>
+    ensures log { IfOk result (λ kept. kept.log.items ≡ []) }
+    ensures whose { IfOk result (λ kept. IsRecordOf R.Medium.Disk (R.opens rt.now file.now)
+        kept.conn) }
 {
     match looked_if_there(rt, file) {
         Ok(Some(look)) => opened_at(rt, file, look.new_log(), true),
@@ -65,15 +125,17 @@ fn opened(rt: &HostRuntime, file: &str) -> Result<JobRecord<FileStore<File>>, Re
 }
 
 // Where this is refused, the log that it made is removed again.
-fn opened_at(
-    rt: &HostRuntime,
+fn opened_at<R: AllocGlobal + Folder + Databases>(
+    rt: &R,
     file: &str,
     new_log: Option<&str>,
     makes: bool,
-) -> Result<JobRecord<FileStore<File>>, RecordFault>
-    ensures { IfOk result (λ kept. kept.log.items ≡ []) }
+) -> Result<JobRecord<FileStore<R::Medium>>, RecordFault>
+    ensures log { IfOk result (λ kept. kept.log.items ≡ []) }
+    ensures whose { IfOk result (λ kept. IsRecordOf R.Medium.Disk (R.opens rt.now file.now)
+        kept.conn) }
 {
-    match Connection::open_from(rt, file, false, Unknown) {
+    match rt.open_database(file) {
         Ok(conn) => opened_in(rt, conn, new_log, makes),
         Err((error, None)) => Err(RecordFault::Store(error)),
         Err((error, Some(left))) => {
@@ -85,14 +147,15 @@ fn opened_at(
 }
 
 // What is refused is let go and not closed: closing would write its log into it.
-fn opened_in(
-    rt: &HostRuntime,
-    conn: Connection<FileStore<File>>,
+fn opened_in<F: AllocGlobal + Folder, D: Disk + Drop>(
+    rt: &F,
+    conn: Connection<FileStore<D>>,
     new_log: Option<&str>,
     makes: bool,
-) -> Result<JobRecord<FileStore<File>>, RecordFault>
+) -> Result<JobRecord<FileStore<D>>, RecordFault>
     requires { conn.in_transaction ≡ false }
-    ensures { IfOk result (λ kept. kept.log.items ≡ []) }
+    ensures log { IfOk result (λ kept. kept.log.items ≡ []) }
+    ensures of { IfOk result (λ kept. IsOf D.Disk conn kept.conn) }
 {
     match as_record(rt.alloc(), conn, makes) {
         Ok(record) => Ok(record),
@@ -104,30 +167,15 @@ fn opened_in(
     }
 }
 
-/// Runs `record` on a file: forgets the rows whose key has the SHA-1 `forget`, where one is given, and writes a line
-/// for each row to `out`, or what went wrong to `err`.
-///
-/// Returns the exit status: 0, or 3 for a fault or a write that fails.
-pub fn main_run<O: Write, E: Write>(
-    rt: &HostRuntime,
+#[tactic(auto, using(crate::specs::Opened::unshown, crate::proofs::Unshown::is_ending))]
+fn ending_of<R: AllocGlobal + Folder + Databases>(
+    rt: &R,
     file: &str,
     forget: Option<&str>,
-    out: &mut O,
-    err: &mut E,
-) -> u8
-    ensures { Says (O.contents out.old) (O.contents out.new) (E.contents err.old)
-        (E.contents err.new) result }
-{
-    let ending = rt.record_ending(file, forget);
-    match ending.print(out, err) {
-        Ok(()) => ending.status(),
-        Err(_) => FAULT,
-    }
-}
-
-#[tactic(auto, using(crate::specs::Endings::no_file, crate::specs::Endings::faulty))]
-fn ending_of(rt: &HostRuntime, file: &str, forget: Option<&str>) -> Ending
-    ensures { IsEnding result }
+) -> Ending
+    ensures ending { IsEnding result }
+    ensures whose { EndsOn R.Medium.Disk (R.opens rt.now file.now)
+        (option_map (λ sum. sum.now) forget.entry) result }
 {
     match fs::metadata(rt, file) {
         Ok(found) if found.is_dir() => Ending::Input,
@@ -136,9 +184,8 @@ fn ending_of(rt: &HostRuntime, file: &str, forget: Option<&str>) -> Ending
     }
 }
 
-#[tactic(auto, using(crate::specs::Endings::no_file, crate::specs::Endings::faulty))]
 fn unseen(error: &io::Error) -> Ending
-    ensures { IsEnding result }
+    ensures { ShowsNone result }
 {
     match error.kind() {
         io::ErrorKind::OutOfMemory => Ending::Record(RecordFault::OutOfMemory),
@@ -146,9 +193,11 @@ fn unseen(error: &io::Error) -> Ending
     }
 }
 
-#[tactic(auto, using(crate::specs::Endings::no_file, crate::specs::Endings::faulty))]
-fn in_file(rt: &HostRuntime, file: &str, forget: Option<&str>) -> Ending
-    ensures { IsEnding result }
+#[tactic(auto, using(crate::specs::Opened::unshown, crate::proofs::Unshown::is_ending))]
+fn in_file<R: AllocGlobal + Folder + Databases>(rt: &R, file: &str, forget: Option<&str>) -> Ending
+    ensures ending { IsEnding result }
+    ensures whose { EndsOn R.Medium.Disk (R.opens rt.now file.now)
+        (option_map (λ sum. sum.now) forget.entry) result }
 {
     match looked(rt, file) {
         Ok(look) => in_look(rt, file, &look, forget),
@@ -157,9 +206,16 @@ fn in_file(rt: &HostRuntime, file: &str, forget: Option<&str>) -> Ending
 }
 
 // A file that holds nothing is no record, and is not opened, since the store would begin one in it.
-#[tactic(auto, using(crate::specs::Endings::no_file, crate::specs::Endings::faulty))]
-fn in_look(rt: &HostRuntime, file: &str, look: &Look, forget: Option<&str>) -> Ending
-    ensures { IsEnding result }
+#[tactic(auto, using(crate::specs::Opened::unshown, crate::proofs::Unshown::is_ending))]
+fn in_look<R: AllocGlobal + Folder + Databases>(
+    rt: &R,
+    file: &str,
+    look: &Look,
+    forget: Option<&str>,
+) -> Ending
+    ensures ending { IsEnding result }
+    ensures whose { EndsOn R.Medium.Disk (R.opens rt.now file.now)
+        (option_map (λ sum. sum.now) forget.entry) result }
 {
     if look.is_empty() {
         return Ending::Record(RecordFault::NotARecord);
@@ -170,38 +226,45 @@ fn in_look(rt: &HostRuntime, file: &str, look: &Look, forget: Option<&str>) -> E
     }
 }
 
-fn in_record(
-    rt: &HostRuntime,
-    record: JobRecord<FileStore<File>>,
+fn in_record<F: AllocGlobal + Folder, D: Disk + Drop>(
+    rt: &F,
+    kept: JobRecord<FileStore<D>>,
     look: &Look,
     forget: Option<&str>,
 ) -> Ending
-    ensures { IsEnding result }
+    ensures ending { IsEnding result }
+    ensures ends { EndsWith D.Disk kept.conn (option_map (λ sum. sum.now) forget.entry) result }
 {
     match forget {
-        Some(sum) => without_rows(rt, record, sum),
-        None => only_shown(rt, record, look.new_log()),
+        Some(sum) => without_rows(rt, kept, sum),
+        None => only_shown(rt, kept, look.new_log()),
     }
 }
 
 // The file is not written: the record is let go and not closed, so its log stays beside it, and one that was made is removed.
-fn only_shown(
-    rt: &HostRuntime,
-    mut record: JobRecord<FileStore<File>>,
+fn only_shown<F: AllocGlobal + Folder, D: Disk + Drop>(
+    rt: &F,
+    mut kept: JobRecord<FileStore<D>>,
     new_log: Option<&str>,
 ) -> Ending
-    ensures { IsEnding result }
+    ensures ending { IsEnding result }
+    ensures shown { IsShown D.Disk kept.conn result }
 {
-    let ending = shown(rt.alloc(), &mut record);
+    let ending = shown(rt.alloc(), &mut kept);
     remove_log(rt, new_log);
-    mem::drop(record);
+    mem::drop(kept);
     ending
 }
 
-fn without_rows(rt: &HostRuntime, record: JobRecord<FileStore<File>>, sum: &str) -> Ending
-    ensures { IsEnding result }
+fn without_rows<F: AllocGlobal + Folder, D: Disk + Drop>(
+    rt: &F,
+    kept: JobRecord<FileStore<D>>,
+    sum: &str,
+) -> Ending
+    ensures ending { IsEnding result }
+    ensures forgotten { IsForgotten D.Disk sum.now kept.conn result }
 {
-    let (ending, files) = forgotten_for_good(rt.alloc(), record, sum);
+    let (ending, files) = forgotten_for_good(rt.alloc(), kept, sum);
     mem::drop(files);
     ending
 }

@@ -1,6 +1,6 @@
 //! What the first bytes of a file and of its log say, before the store sees them.
 ghost use Rattle.std.specs.Prelude.{◌≡◌, ◌≤◌, length};
-ghost use Rattle.record_program.specs.Head.{is_blank, has_magic, has_pages, is_utf16, is_vacuumed, form_of, head_of, is_log, has_log_pages, is_other_log, is_bare_log, of_log, refusal_of};
+ghost use Rattle.record_program.specs.Head.{is_blank, is_begun, has_magic, has_pages, is_utf16, is_vacuumed, form_of, head_of, is_log, has_log_pages, log_of, is_bare_log, of_log, refusal_of};
 
 use job_record::RecordFault;
 use sqlite::{Error, ErrorCode};
@@ -14,6 +14,10 @@ pub const LOG_HEADER: usize = 32;
 /// How many bytes a log with one frame has: its header, the frame's, and a page.
 const LEAST_LOG: u64 = 32 + 24 + 4_096;
 
+const NOT_A_DATABASE: RecordFault = RecordFault::Store(Error::SqliteFailure(
+    ErrorCode::NotADatabase,
+));
+
 const MAGIC: &[u8] = b"SQLite format 3\0";
 
 /// What a file is by its first bytes.
@@ -21,6 +25,8 @@ const MAGIC: &[u8] = b"SQLite format 3\0";
 pub enum Head {
     /// There are none but zeros: the first page was not written yet.
     Blank,
+    /// The first one is zero, and not all are: the first byte of a new database is written last.
+    Begun,
     /// They are no header of a database.
     NoDatabase,
     /// The pages have another size than 4,096 bytes.
@@ -40,6 +46,9 @@ pub fn head_of(bytes: &[u8]) -> Head
     if is_blank(bytes) {
         return Head::Blank;
     }
+    if is_begun(bytes) {
+        return Head::Begun;
+    }
     if bytes.len() < HEADER {
         return Head::NoDatabase;
     }
@@ -50,6 +59,12 @@ fn is_blank(bytes: &[u8]) -> bool
     ensures { result ≡ is_blank bytes.now }
 {
     bytes.iter().all(|byte| *byte == 0)
+}
+
+fn is_begun(bytes: &[u8]) -> bool
+    ensures { result ≡ is_begun bytes.now }
+{
+    !bytes.is_empty() && bytes[0] == 0
 }
 
 fn form_of(bytes: &[u8]) -> Head
@@ -97,11 +112,30 @@ fn is_vacuumed(bytes: &[u8]) -> bool
     bytes[52] != 0 || bytes[53] != 0 || bytes[54] != 0 || bytes[55] != 0
 }
 
-/// Whether these first 32 bytes of a log, or all that it has, say that its pages have another size than 4,096 bytes.
-pub fn is_other_log(bytes: &[u8]) -> bool
-    ensures { result ≡ is_other_log bytes.now }
+/// What the log beside a file is by its first bytes.
+#[derive(Clone, Copy, Debug, PartialEq, Eq)]
+pub enum LogHead {
+    /// There is none.
+    Absent,
+    /// They are no header of a log.
+    NoLog,
+    /// The pages have another size than 4,096 bytes.
+    OtherPages,
+    /// The log may be one of a record.
+    Log,
+}
+
+/// Returns what a log is by its first 32 bytes, or by all that it has if they are fewer.
+pub fn log_of(bytes: &[u8]) -> LogHead
+    ensures { result ≡ log_of bytes.now }
 {
-    bytes.len() >= LOG_HEADER && is_log(bytes) && !has_log_pages(bytes)
+    if bytes.len() < LOG_HEADER || !is_log(bytes) {
+        LogHead::NoLog
+    } else if !has_log_pages(bytes) {
+        LogHead::OtherPages
+    } else {
+        LogHead::Log
+    }
 }
 
 fn is_log(bytes: &[u8]) -> bool
@@ -125,27 +159,30 @@ pub fn is_bare_log(bytes: u64) -> bool
     bytes < LEAST_LOG
 }
 
-/// Returns why such a file is not opened: R1 for a database that no record is, and R4 for what is none. `other_log` says
-/// that the pages of its log have another size.
-pub fn refusal_of(head: Head, other_log: bool) -> Option<RecordFault>
-    ensures { result ≡ refusal_of head other_log }
+/// Returns why such a file is not opened beside such a log: R1 for a database that no record is, and R4 for what is none. A database whose
+/// making was cut off has its log, and is left to the store, which makes it anew.
+pub fn refusal_of(head: Head, log: LogHead) -> Option<RecordFault>
+    ensures { result ≡ refusal_of head log }
 {
     match head {
-        Head::NoDatabase => Some(RecordFault::Store(Error::SqliteFailure(ErrorCode::NotADatabase))),
+        Head::Begun if matches!(log, LogHead::Log) => None,
+        Head::Begun => Some(NOT_A_DATABASE),
+        Head::NoDatabase => Some(NOT_A_DATABASE),
         Head::OtherPages => Some(RecordFault::NotARecord),
         Head::OtherText => Some(RecordFault::NotARecord),
         Head::AutoVacuum => Some(RecordFault::NotARecord),
-        Head::Blank => of_log(other_log),
-        Head::Database => of_log(other_log),
+        Head::Blank => of_log(log),
+        Head::Database => of_log(log),
     }
 }
 
-fn of_log(other_log: bool) -> Option<RecordFault>
-    ensures { result ≡ of_log other_log }
+fn of_log(log: LogHead) -> Option<RecordFault>
+    ensures { result ≡ of_log log }
 {
-    if other_log {
-        Some(RecordFault::NotARecord)
-    } else {
-        None
+    match log {
+        LogHead::OtherPages => Some(RecordFault::NotARecord),
+        LogHead::Absent => None,
+        LogHead::NoLog => None,
+        LogHead::Log => None,
     }
 }

@@ -10,9 +10,11 @@
 #![tactic(auto)]
 
 mod closing;
+mod databases;
 mod ending;
 mod file;
 mod head;
+mod kept;
 mod keys;
 mod lines;
 mod look;
@@ -21,9 +23,11 @@ mod tables;
 mod words;
 
 pub use closing::forgotten_for_good;
+pub use databases::Databases;
 pub use ending::{Ending, unclosed};
 pub use file::{Records, main_run};
-pub use head::{Head, head_of, is_bare_log, is_other_log, refusal_of};
+pub use head::{Head, LogHead, head_of, is_bare_log, log_of, refusal_of};
+pub use kept::{FileLeft, FileRecord};
 pub use keys::keys_with;
 pub use lines::rows_text;
 pub use store::{ended, forgotten, shown};

@@ -1,10 +1,11 @@
 //! A file and its log, looked at before the store opens them.
 ghost use Rattle.std.specs.Prelude.{◌≤◌, IfOk, length};
 
-use crate::head::{HEADER, Head, LOG_HEADER, head_of, is_bare_log, is_other_log, refusal_of};
+use crate::head::{HEADER, Head, LOG_HEADER, LogHead, head_of, is_bare_log, log_of, refusal_of};
 use job_record::RecordFault;
 use sqlite::{Error, ErrorCode};
 use std::io::Read;
+use std::rt::Files;
 use std::{fs, io};
 
 const CANNOT_OPEN: RecordFault = RecordFault::Store(Error::SqliteFailure(ErrorCode::CannotOpen));
@@ -14,37 +15,44 @@ const CANNOT_OPEN: RecordFault = RecordFault::Store(Error::SqliteFailure(ErrorCo
 pub struct Look {
     head: Head,
     log: String,
-    has_log: bool,
+    log_head: LogHead,
 }
 
 impl Look {
     /// Whether nothing of a database is there.
     pub fn is_empty(&self) -> bool {
-        matches!(self.head, Head::Blank) && !self.has_log
+        matches!(self.head, Head::Blank) && matches!(self.log_head, LogHead::Absent)
     }
 
     /// Returns the name of the log that an opening makes beside the file.
     pub fn new_log(&self) -> Option<&str> {
-        if self.has_log {
-            return None;
+        match self.log_head {
+            LogHead::Absent => Some(self.log.as_str()),
+            _ => None,
         }
-        Some(self.log.as_str())
     }
 }
 
 /// Looks at a file and at its log, and refuses what no record is.
-pub fn looked(rt: &HostRuntime, file: &str) -> Result<Look, RecordFault> {
+pub fn looked<R: AllocGlobal + Files>(rt: &R, file: &str) -> Result<Look, RecordFault> {
     let head = head_at(rt, file)?;
     let log = log_name(rt, file)?;
-    let (has_log, is_other) = log_at(rt, log.as_str())?;
-    match refusal_of(head, is_other) {
+    let log_head = log_at(rt, log.as_str())?;
+    match refusal_of(head, log_head) {
         Some(fault) => Err(fault),
-        None => Ok(Look { head, log, has_log }),
+        None => Ok(Look {
+            head,
+            log,
+            log_head,
+        }),
     }
 }
 
 /// The same, if the file may be absent.
-pub fn looked_if_there(rt: &HostRuntime, file: &str) -> Result<Option<Look>, RecordFault> {
+pub fn looked_if_there<R: AllocGlobal + Files>(
+    rt: &R,
+    file: &str,
+) -> Result<Option<Look>, RecordFault> {
     match fs::metadata(rt, file) {
         Err(error) if error.kind() == io::ErrorKind::NotFound => Ok(None),
         _ => Ok(Some(looked(rt, file)?)),
@@ -52,13 +60,13 @@ pub fn looked_if_there(rt: &HostRuntime, file: &str) -> Result<Option<Look>, Rec
 }
 
 /// Removes the log that an opening has made, while the files are held. One that another program has committed to since the look stays.
-pub fn remove_log(rt: &HostRuntime, new_log: Option<&str>) {
+pub fn remove_log<R: AllocGlobal + Files>(rt: &R, new_log: Option<&str>) {
     if let Some(log) = new_log {
         remove_if_bare(rt, log);
     }
 }
 
-fn remove_if_bare(rt: &HostRuntime, log: &str) {
+fn remove_if_bare<R: AllocGlobal + Files>(rt: &R, log: &str) {
     if let Ok(found) = fs::metadata(rt, log) {
         if is_bare_log(found.len()) {
             let _removed = fs::remove_file(rt, log);
@@ -66,36 +74,39 @@ fn remove_if_bare(rt: &HostRuntime, log: &str) {
     }
 }
 
-fn head_at(rt: &HostRuntime, file: &str) -> Result<Head, RecordFault> {
+fn head_at<R: AllocGlobal + Files>(rt: &R, file: &str) -> Result<Head, RecordFault> {
     let mut bytes = [0; HEADER];
     let count = first_bytes(rt, file, &mut bytes)?;
     Ok(head_of(&bytes[..count]))
 }
 
 // As in SQLite, the log lies beside the file that a link leads to.
-fn log_name(rt: &HostRuntime, file: &str) -> Result<String, RecordFault> {
+fn log_name<R: AllocGlobal + Files>(rt: &R, file: &str) -> Result<String, RecordFault> {
     match fs::canonicalize(rt, file) {
         Ok(path) => Ok(format!(in rt.alloc(); "{}-wal", path.as_str())?),
         Err(error) => Err(of_io(&error)),
     }
 }
 
-// Whether the log is there, and whether its pages have another size than a record's.
-fn log_at(rt: &HostRuntime, log: &str) -> Result<(bool, bool), RecordFault> {
+fn log_at<R: AllocGlobal + Files>(rt: &R, log: &str) -> Result<LogHead, RecordFault> {
     match fs::symlink_metadata(rt, log) {
-        Ok(_) => Ok((true, is_other_at(rt, log)?)),
-        Err(error) if error.kind() == io::ErrorKind::NotFound => Ok((false, false)),
+        Ok(_) => log_in(rt, log),
+        Err(error) if error.kind() == io::ErrorKind::NotFound => Ok(LogHead::Absent),
         Err(error) => Err(of_io(&error)),
     }
 }
 
-fn is_other_at(rt: &HostRuntime, log: &str) -> Result<bool, RecordFault> {
+fn log_in<R: AllocGlobal + Files>(rt: &R, log: &str) -> Result<LogHead, RecordFault> {
     let mut bytes = [0; LOG_HEADER];
     let count = first_bytes(rt, log, &mut bytes)?;
-    Ok(is_other_log(&bytes[..count]))
+    Ok(log_of(&bytes[..count]))
 }
 
-fn first_bytes(rt: &HostRuntime, path: &str, bytes: &mut [u8]) -> Result<usize, RecordFault>
+fn first_bytes<R: AllocGlobal + Files>(
+    rt: &R,
+    path: &str,
+    bytes: &mut [u8],
+) -> Result<usize, RecordFault>
     ensures { IfOk result (λ count. count ≤ length bytes.old) }
 {
     match read_first(rt, path, bytes) {
@@ -105,7 +116,7 @@ fn first_bytes(rt: &HostRuntime, path: &str, bytes: &mut [u8]) -> Result<usize, 
 }
 
 // Reads what a regular file begins with. No other is opened, since a pipe would wait.
-fn read_first(rt: &HostRuntime, path: &str, bytes: &mut [u8]) -> io::Result<usize>
+fn read_first<R: AllocGlobal + Files>(rt: &R, path: &str, bytes: &mut [u8]) -> io::Result<usize>
     ensures { IfOk result (λ count. count ≤ length bytes.old) }
 {
     if !fs::metadata(rt, path)?.is_file() {

@@ -38,6 +38,8 @@ pub fn shown<S: Alter>(alloc: Global, kept: &mut JobRecord<S>) -> Ending
 #[tactic(auto, using(crate::specs::Endings::faulty))]
 pub fn forgotten<S: Alter>(alloc: Global, kept: &mut JobRecord<S>, sum: &str) -> Ending
     ensures ending { IsEnding result }
+    ensures clean { HasCleanDisk (state S.Store kept.new.conn)
+        → HasCleanDisk (state S.Store kept.old.conn) }
     ensures forgets { HasCleanDisk (state S.Store kept.new.conn)
         → IsRecord (state S.Store kept.old.conn)
         → ForgetsFirst S.Store kept.old.conn kept.new.conn sum.now result }

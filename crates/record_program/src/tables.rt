@@ -1,11 +1,14 @@
 //! Whether a database has the tables of a record, before a row of theirs is read.
-ghost use Rattle.std.specs.Prelude.{◌≡◌, ℤ, pos, [], false, not, IfOk};
+ghost use Rattle.std.specs.Prelude.{◌≡◌, ℤ, pos, [], false, not, None, IfOk};
 ghost use Rattle.std.specs.Ordering.{int_eq};
 ghost use Rattle.sqlite.specs.Order.{column};
 ghost use Rattle.sqlite.specs.declared.types.Value.TheVariants.{Int};
-ghost use Rattle.sqlite.specs.State.{HasCleanDisk, QueriesRow};
+ghost use Rattle.sqlite.specs.State.{HasCleanDisk, IsUnchanged, QueriesRow};
 ghost use Rattle.sqlite.specs.Held.{state};
+ghost use Rattle.job_record.specs.OpenMap.{OpensAs};
+ghost use Rattle.job_record.specs.Rows.{OpensWithRows};
 ghost use Rattle.record_program.specs.Views.{views_text};
+ghost use Rattle.record_program.specs.inner.Looked.{Spares};
 
 use job_record::{JobRecord, RecordFault};
 use sqlite::{Alter, Connection, Error};
@@ -24,7 +27,11 @@ pub fn as_record<S: Alter + Drop>(
     makes: bool,
 ) -> Result<JobRecord<S>, (RecordFault, Connection<S>)>
     requires { conn.in_transaction ≡ false }
-    ensures { IfOk result (λ kept. kept.log.items ≡ []) }
+    ensures log { IfOk result (λ kept. kept.log.items ≡ []) }
+    ensures map { IfOk result (λ kept. HasCleanDisk (state S.Store kept.conn)
+        → OpensAs (state S.Store conn) (state S.Store kept.conn)) }
+    ensures rows { IfOk result (λ kept. HasCleanDisk (state S.Store kept.conn)
+        → OpensWithRows (state S.Store conn) (state S.Store kept.conn)) }
 {
     match refusal_in(&mut conn, makes) {
         Some(fault) => Err((fault, conn)),
@@ -34,11 +41,13 @@ pub fn as_record<S: Alter + Drop>(
 
 // A view in a table's place is no table, and reading it may have no end.
 fn refusal_in<S: Alter>(conn: &mut Connection<S>, makes: bool) -> Option<RecordFault>
-    ensures { conn.old.in_transaction ≡ false → conn.new.in_transaction ≡ false }
+    ensures mode { conn.old.in_transaction ≡ false → conn.new.in_transaction ≡ false }
+    ensures same { result ≡ None → Spares (state S.Store conn.old) (state S.Store conn.new) }
 {
     match has_views(conn) {
         Ok(true) => Some(RecordFault::NotARecord),
-        Ok(false) => refusal_of_version(conn, makes),
+        Ok(false) if makes => None,
+        Ok(false) => refusal_of_version(conn),
         Err(error) => Some(RecordFault::Store(error)),
     }
 }
@@ -48,6 +57,8 @@ fn has_views<S: Alter>(conn: &mut Connection<S>) -> Result<bool, Error>
     ensures ok { HasCleanDisk (state S.Store conn.new) → IfOk result (λ found. (c : _)
         × QueriesRow views_text [] (state S.Store conn.old) (state S.Store conn.new) (Ok c)
         × (n : ℤ) × (column c 0 ≡ Int n) × (found ≡ not (int_eq n (pos 0)))) }
+    ensures clean { HasCleanDisk (state S.Store conn.new)
+        → HasCleanDisk (state S.Store conn.old) }
     ensures mode { conn.old.in_transaction ≡ false → conn.new.in_transaction ≡ false }
 {
     let columns = conn.query_row(VIEWS, &[])?;
@@ -55,14 +66,24 @@ fn has_views<S: Alter>(conn: &mut Connection<S>) -> Result<bool, Error>
 }
 
 // A store without the table of the version is no record. Opened as one it would be made one.
-fn refusal_of_version<S: Alter>(conn: &mut Connection<S>, makes: bool) -> Option<RecordFault>
-    ensures { conn.old.in_transaction ≡ false → conn.new.in_transaction ≡ false }
+fn refusal_of_version<S: Alter>(conn: &mut Connection<S>) -> Option<RecordFault>
+    ensures mode { conn.old.in_transaction ≡ false → conn.new.in_transaction ≡ false }
+    ensures clean { HasCleanDisk (state S.Store conn.new)
+        → HasCleanDisk (state S.Store conn.old) }
+    ensures same { result ≡ None → HasCleanDisk (state S.Store conn.new)
+        → IsUnchanged (state S.Store conn.old) (state S.Store conn.new) }
 {
-    if makes {
-        return None;
-    }
     match conn.prepare(META) {
-        Err(Error::SqlInputError(CompileError::NoSuchTable)) => Some(RecordFault::NotARecord),
-        _ => None,
+        Ok(_) => None,
+        Err(error) => Some(refusal_of(error)),
+    }
+}
+
+// Why a store whose version can't be asked for is no record.
+fn refusal_of(error: Error) -> RecordFault {
+    match error {
+        Error::SqlInputError(CompileError::NoSuchTable) => RecordFault::NotARecord,
+        Error::SqlInputError(CompileError::NoSuchColumn) => RecordFault::NotARecord,
+        _ => RecordFault::Store(error),
     }
 }

@@ -3,10 +3,12 @@
 
 use crate::asks::{opened, ran};
 use job_record::{JobRecord, RecordFault};
+use record_program::{Ending, forgotten, forgotten_for_good};
 use row_io::AnswerText;
 use sqlite::{Connection, Error, ErrorCode, FileStore, Files, Options};
 use sqlite_disk::Disk;
 use std::alloc::Global;
+use std::mem;
 
 /// The record in the files, or the refusal with the files again.
 pub(crate) fn begun<D: Disk + Drop>(
@@ -57,6 +59,33 @@ fn disconnected<D: Disk + Drop>(conn: Connection<FileStore<D>>) -> Files<D> {
         Ok(files) => files,
         Err((_error, store)) => store.close(),
     }
+}
+
+/// Forgets the rows with this sum for good. Says whether that ends with rows, and gives the files back if they were closed.
+pub(crate) fn forgotten_in<D: Disk + Drop>(
+    alloc: Global,
+    record: JobRecord<FileStore<D>>,
+    sum: &str,
+) -> (bool, Option<Files<D>>) {
+    let (ending, files) = forgotten_for_good(alloc, record, sum);
+    (shows_rows(ending), files)
+}
+
+/// Forgets the rows with this sum, and lets the record go. Says whether that ends with rows.
+pub(crate) fn forgets<D: Disk + Drop>(
+    alloc: Global,
+    mut record: JobRecord<FileStore<D>>,
+    sum: &str,
+) -> bool {
+    let ending = forgotten(alloc, &mut record, sum);
+    mem::drop(stopped(record));
+    shows_rows(ending)
+}
+
+fn shows_rows(ending: Ending) -> bool {
+    let shows = matches!(&ending, Ending::Rows(_));
+    mem::drop(ending);
+    shows
 }
 
 /// Runs statements on the files, or writes the first column of each row that a query shows, and gives the files back.

@@ -7,12 +7,20 @@ use record_program::main_run;
 use row_io::{AnswerText, Row, RowFault};
 use serde_json::Value as Json;
 use std::alloc::Global;
+use std::os::unix::fs::symlink;
 use std::{fs, mem, str};
 
 // The file of a row, which is made for it and removed again.
 const FILE: &str = "row.db";
 
 const LOG: &str = "row.db-wal";
+
+// A folder with a link to it.
+const FOLDER: &str = "linked";
+
+const LINK: &str = "linked/row.db";
+
+const LINK_LOG: &str = "linked/row.db-wal";
 
 /// What `record` answers and writes of a file: one of a record after commands, of a database that SQL made, of bytes, or
 /// the path `at`. And whether the file is as it was.
@@ -31,10 +39,29 @@ fn told_of(rt: &HostRuntime, row: &Row, bytes: &[u8]) -> Result<String, RowFault
     if fs::write(rt, FILE, bytes).is_err() || !is_ready(rt, row) {
         return Err(RowFault::BadArgument);
     }
-    let text = told(rt, row, FILE, bytes);
+    let text = match row.find("link") {
+        None => told(rt, row, FILE, bytes),
+        Some(_) => told_at_link(rt, row, bytes),
+    };
     let _removed = fs::remove_file(rt, FILE);
     let _removed = fs::remove_file(rt, LOG);
     text
+}
+
+// What it answers and writes of a link to the file, and whether a log is left beside the file, and one beside the link.
+fn told_at_link(rt: &HostRuntime, row: &Row, bytes: &[u8]) -> Result<String, RowFault> {
+    let _made = fs::create_dir(rt, FOLDER);
+    let _linked = symlink(rt, "../row.db", LINK);
+    let text = told(rt, row, LINK, bytes);
+    let file_log = fs::metadata(rt, LOG).is_ok();
+    let link_log = fs::metadata(rt, LINK_LOG).is_ok();
+    let _removed = fs::remove_file(rt, LINK);
+    let _removed = fs::remove_file(rt, LINK_LOG);
+    let _removed = fs::remove_dir(rt, FOLDER);
+    Ok(format!(in rt.alloc();
+        "[{},{{\"file_log\":{file_log},\"link_log\":{link_log}}}]",
+        text?
+    )?)
 }
 
 // Whether nobody may write the row's file any more, where the row has `read_only`.

@@ -9,6 +9,7 @@ mod bench;
 mod commands;
 mod file;
 mod fill;
+mod forgets;
 mod keys;
 mod memory;
 mod opening;
@@ -28,6 +29,7 @@ pub fn answer(rt: &HostRuntime, row: &Row) -> Result<String, RowFault> {
         "open" => opening::opened(alloc, row),
         "open_bytes" => opening::opened_bytes(alloc, row),
         "stops" => stops::stops(alloc, row),
+        "forget_faults" => forgets::faults(alloc, row),
         "fill" => fill::filled(alloc, row),
         "record" => file::shown(rt, row),
         "measured" => bench::measured(rt, row),

@@ -1,7 +1,7 @@
 //! Records over two files in memory, each behind a fuse that stops it at a call. Only here, and where `bench.rt` opens a
 //! file, is anything called at a store that is named, since each such call takes the check long: once in a function.
 
-use crate::any_disk::{begun, closed, run_on, stopped};
+use crate::any_disk::{begun, closed, forgets, forgotten_in, run_on, stopped};
 use crate::asks::{Ask, asked, dropped, found, listed, put};
 use job_record::{JobRecord, RecordFault};
 use job_rows::{Entry, Record, RecordError, Row as RecordRow};
@@ -156,6 +156,21 @@ impl Store {
         Disks {
             files: closed(record),
         }
+    }
+
+    /// Forgets the rows with this sum for good. Says whether that ends with rows, and gives the files back if they were closed.
+    pub(crate) fn forget_for_good(self, alloc: Global, sum: &str) -> (bool, Option<Disks>) {
+        let Store { record } = self;
+        match forgotten_in(alloc, record, sum) {
+            (shows_rows, Some(files)) => (shows_rows, Some(Disks { files })),
+            (shows_rows, None) => (shows_rows, None),
+        }
+    }
+
+    /// Forgets the rows with this sum, and lets the record go. Says whether that ends with rows.
+    pub(crate) fn forgets(self, alloc: Global, sum: &str) -> bool {
+        let Store { record } = self;
+        forgets(alloc, record, sum)
     }
 
     /// The files of a record that is let go.
