@@ -13,9 +13,13 @@ key_sum key = encode_lower (sha1 key)
 abbrev pub key_folder : List ℕ → List ℕ → List ℕ
 key_folder archive key = archive ++ codes "/" ++ key_sum key
 
--- beside the folders of keys, none of whose names begins with a period: for what is stored from this folder of a job
-abbrev pub beside_folder : List ℕ → List ℕ → List ℕ
-beside_folder archive folder = archive ++ codes "/." ++ key_sum folder
+-- beside the folders of keys, none of whose names begins with a period: for what is stored under this key
+abbrev pub stores_folder : List ℕ → List ℕ → List ℕ
+stores_folder archive key = archive ++ codes "/." ++ key_sum key
+
+-- and in it for what is stored from this folder of a job
+abbrev pub beside_folder : List ℕ → List ℕ → List ℕ → List ℕ
+beside_folder archive key folder = stores_folder archive key ++ codes "/" ++ key_sum folder
 
 -- where the n-th job's files are fetched to, in the folder `out` there
 abbrev pub fetch_folder : List ℕ → ℕ → List ℕ

@@ -21,12 +21,26 @@ pub(crate) fn key_folder(alloc: Global, archive: &str, key: &str) -> Result<Text
     Ok(Text::from_string(format!(in alloc; "{archive}/{sum}")?))
 }
 
-/// A folder beside those of keys, for what is stored from this folder of a job. Jobs of runs at one time have folders of their own.
-pub(crate) fn beside_folder(alloc: Global, archive: &str, folder: &str) -> Result<Text, AllocError>
-    ensures { IfOk result (λ path. path ≡ spec.beside_folder archive.now folder.now) }
+/// The folder beside that of a key which has what is stored under the key and is not whole yet.
+pub(crate) fn stores_folder(alloc: Global, archive: &str, key: &str) -> Result<Text, AllocError>
+    ensures { IfOk result (λ path. path ≡ spec.stores_folder archive.now key.now) }
 {
-    let sum = key_sum(alloc, folder)?;
+    let sum = key_sum(alloc, key)?;
     Ok(Text::from_string(format!(in alloc; "{archive}/.{sum}")?))
+}
+
+/// The folder there for what is stored from this folder of a job. Jobs of runs at one time have folders of their own.
+pub(crate) fn beside_folder(
+    alloc: Global,
+    archive: &str,
+    key: &str,
+    folder: &str,
+) -> Result<Text, AllocError>
+    ensures { IfOk result (λ path. path ≡ spec.beside_folder archive.now key.now folder.now) }
+{
+    let stores = stores_folder(alloc, archive, key)?;
+    let sum = key_sum(alloc, folder)?;
+    Ok(Text::from_string(format!(in alloc; "{stores}/{sum}")?))
 }
 
 /// The folder whose folder `out` the files of a fetch are copied to, by its number.

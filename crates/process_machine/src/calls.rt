@@ -4,20 +4,23 @@ ghost use Rattle.collected_outputs.specs.Listing.{are_paths};
 ghost use Rattle.proc_host.specs.Answers.{are_among};
 ghost use Rattle.proc_host.specs.Log.{answer_behind, entries_of, FailsOnlyBy};
 
+use crate::archive::fetch_folder;
 use crate::clearing::clear_job;
 use crate::collecting::next_end;
-use crate::delivering::{Undelivered, deliver_all, missed_result};
+use crate::delivering::deliver_all;
 use crate::fetching::fetch_all;
 use crate::heads::head_of;
 use crate::hearing::Hear;
-use crate::layout::lay_out;
+use crate::layout::{joined, lay_out};
 use crate::listing::listing_of;
 use crate::measuring::measure_of;
+use crate::missed::{Missed, Undelivered};
 use crate::noting::{add, make_room, note, refused, told};
+use crate::past::{Past, Places};
 use crate::spawning::{Flying, spawned};
 use crate::storing::store_all;
 use crate::tree::Others;
-use crate::trouble::Trouble;
+use crate::trouble::{Hindrance, Trouble};
 use crate::unlisted::{NoListing, Unlisted};
 use crate::world::World;
 use command_line::Launch;
@@ -32,6 +35,7 @@ use std::process::Stdio;
 pub(crate) fn measure<R: World>(
     rt: &R,
     log: &mut Vec<Entry>,
+    places: &mut Places,
     path: &Text,
 ) -> Result<Measure, HostError>
     ensures logged { log.new.items ≡ log.old.items
@@ -41,7 +45,7 @@ pub(crate) fn measure<R: World>(
 {
     make_room(log)?;
     let request = HostRequest::Measure(path.copied(rt.alloc())?);
-    match measured_twice(rt, path) {
+    match measured_twice(rt, places, log.len(), path) {
         Ok((measure, noted)) => {
             note(log, request, HostAnswer::Measured(noted));
             Ok(measure)
@@ -50,12 +54,15 @@ pub(crate) fn measure<R: World>(
     }
 }
 
+/// Lays out the folder of a job. Where an input can't be copied, it is told which, and why, as far as there is room to tell it.
 pub(crate) fn stage<R: World>(
     rt: &R,
     log: &mut Vec<Entry>,
+    places: &Places,
     work: &str,
     plan: &StagePlan,
     number: u64,
+    hindered: &mut Option<Undelivered>,
 ) -> Result<(), HostError>
     ensures logged { log.new.items ≡ log.old.items
         ++ entries_of (HostRequest.Stage plan.now number)
@@ -64,11 +71,19 @@ pub(crate) fn stage<R: World>(
 {
     make_room(log)?;
     let request = HostRequest::Stage(plan.clone_in(rt.alloc())?, number);
-    let outcome = lay_out(rt, work, plan, number);
+    let mut missed = Missed::new();
+    let past = Past {
+        log: log.as_slice(),
+        places,
+    };
+    let outcome = lay_out(rt, past, work, plan, number, &mut missed);
+    let found = missed.told(rt.alloc(), plan.moves.as_slice(), outcome);
+    mem::drop(mem::replace(hindered, found));
     told(log, request, HostFault::Stage, outcome)
 }
 
-/// Starts the child of a launch under this ticket, whose messages are to be handed on or not where no file takes them.
+/// Starts the child of a launch under this ticket, whose messages are to be handed on or not where no file takes them. Where it can't be
+/// started, it is told why, as far as the system says so.
 pub(crate) fn start<R: World>(
     rt: &R,
     log: &mut Vec<Entry>,
@@ -77,6 +92,7 @@ pub(crate) fn start<R: World>(
     launch: &Launch,
     ticket: u64,
     shows: bool,
+    unstarted: &mut Option<Hindrance>,
 ) -> Result<(), HostError>
 where
     R::File: Into<Stdio>,
@@ -89,7 +105,7 @@ where
 {
     make_room(running)?;
     make_room(flying)?;
-    let child = begin(rt, log, launch, ticket, shows)?;
+    let child = begin(rt, log, launch, ticket, shows, unstarted)?;
     add(running, ticket);
     add(flying, child);
     Ok(())
@@ -101,6 +117,7 @@ fn begin<R: World>(
     launch: &Launch,
     ticket: u64,
     shows: bool,
+    unstarted: &mut Option<Hindrance>,
 ) -> Result<Flying<R::Started, R::File>, HostError>
 where
     R::File: Into<Stdio>,
@@ -116,7 +133,17 @@ where
             note(log, request, HostAnswer::Started(ticket));
             Ok(child)
         }
-        Err(trouble) => Err(refused(log, request, HostFault::Start, trouble)),
+        Err(trouble) => {
+            *unstarted = told_by_system(trouble);
+            Err(refused(log, request, HostFault::Start, trouble))
+        }
+    }
+}
+
+fn told_by_system(trouble: Trouble) -> Option<Hindrance> {
+    match trouble {
+        Trouble::Hindered(why) => Some(why),
+        Trouble::Failed | Trouble::OutOfMemory => None,
     }
 }
 
@@ -150,6 +177,7 @@ pub(crate) fn collect<R: World, H: Hear>(
 pub(crate) fn scan<R: World>(
     rt: &R,
     log: &mut Vec<Entry>,
+    places: &mut Places,
     work: Option<&str>,
     folder: &Text,
     unlisted: &mut Option<Unlisted>,
@@ -162,7 +190,7 @@ pub(crate) fn scan<R: World>(
 {
     make_room(log)?;
     let request = HostRequest::Scan(folder.copied(rt.alloc())?);
-    match listed_twice(rt, work, folder, unlisted) {
+    match listed_twice(rt, places, log.len(), work, folder, unlisted) {
         Ok((listed, noted)) => {
             note(log, request, HostAnswer::Listed(noted));
             Ok(listed)
@@ -197,6 +225,7 @@ pub(crate) fn head<R: World>(
 pub(crate) fn fetch<R: World>(
     rt: &R,
     log: &mut Vec<Entry>,
+    places: &mut Places,
     work: &str,
     archive: Option<&str>,
     key: &Text,
@@ -211,7 +240,7 @@ pub(crate) fn fetch<R: World>(
 {
     make_room(log)?;
     let request = fetch_request(rt.alloc(), key, number, files)?;
-    match fetched_twice(rt, work, archive, key, number, files) {
+    match fetched_twice(rt, places, log.len(), work, archive, key, number, files) {
         Ok((found, noted)) => {
             note(log, request, HostAnswer::Fetched(noted));
             Ok(found)
@@ -227,6 +256,7 @@ pub(crate) fn store<R: World>(
     key: &Text,
     folder: &Text,
     files: &Items<Found>,
+    unstored: &mut Option<Hindrance>,
 ) -> Result<(), HostError>
     ensures logged { log.new.items ≡ log.old.items
         ++ entries_of (HostRequest.Store key.now folder.now files.now)
@@ -236,13 +266,23 @@ pub(crate) fn store<R: World>(
     make_room(log)?;
     let request = store_request(rt.alloc(), key, folder, files)?;
     let outcome = store_all(rt, archive, key.as_str(), folder.as_str(), files.as_slice());
+    note_unstored(unstored, outcome);
     told(log, request, HostFault::Store, outcome)
+}
+
+// Keeps what hindered the first store that failed.
+fn note_unstored(unstored: &mut Option<Hindrance>, outcome: Result<(), Trouble>) {
+    if let (None, Err(trouble)) = (*unstored, outcome) {
+        *unstored = told_by_system(trouble);
+    }
 }
 
 /// Copies results. Where one can't be copied, it is told which, and why, as far as there is room to tell it.
 pub(crate) fn deliver<R: World>(
     rt: &R,
     log: &mut Vec<Entry>,
+    places: &Places,
+    guarded: &[Text],
     outdir: &str,
     plan: &StagePlan,
     hindered: &mut Option<Undelivered>,
@@ -253,9 +293,20 @@ pub(crate) fn deliver<R: World>(
 {
     make_room(log)?;
     let request = HostRequest::Deliver(plan.clone_in(rt.alloc())?);
-    let mut at = 0;
-    let outcome = deliver_all(rt, log.as_slice(), plan.moves.as_slice(), outdir, &mut at);
-    let found = missed_result(rt.alloc(), plan.moves.as_slice(), at, outcome);
+    let mut missed = Missed::new();
+    let past = Past {
+        log: log.as_slice(),
+        places,
+    };
+    let outcome = deliver_all(
+        rt,
+        past,
+        guarded,
+        plan.moves.as_slice(),
+        outdir,
+        &mut missed,
+    );
+    let found = missed.told(rt.alloc(), plan.moves.as_slice(), outcome);
     mem::drop(mem::replace(hindered, found));
     told(log, request, HostFault::Deliver, outcome)
 }
@@ -277,9 +328,11 @@ fn ended_of<R: World, H: Hear>(
     }
 }
 
-// A listing for the caller, and a copy for the log.
+// A listing for the caller, and a copy for the log, whose entry of this index is to have it.
 fn listed_twice<R: World>(
     rt: &R,
+    places: &mut Places,
+    index: usize,
     work: Option<&str>,
     folder: &Text,
     unlisted: &mut Option<Unlisted>,
@@ -289,6 +342,7 @@ fn listed_twice<R: World>(
 {
     let listed = listed_or_why(rt, folder, unlisted)?;
     let noted = listing_in(rt.alloc(), &listed)?;
+    places.note(rt.alloc(), folder.as_str(), index)?;
     if let Some(work) = work {
         // What can't be removed is in nobody's way.
         let _cleared = clear_job(rt, work, folder.as_str(), noted.as_slice());
@@ -313,9 +367,11 @@ fn listed_or_why<R: World>(
     outcome
 }
 
-// What was fetched for the caller, and a copy for the log.
+// What was fetched for the caller, and a copy for the log, whose entry of this index is to have it.
 fn fetched_twice<R: World>(
     rt: &R,
+    places: &mut Places,
+    index: usize,
     work: &str,
     archive: Option<&str>,
     key: &Text,
@@ -327,15 +383,24 @@ fn fetched_twice<R: World>(
 {
     let found = fetch_all(rt, archive, key.as_str(), work, number, files.as_slice())?;
     let noted = listing_in(rt.alloc(), &found)?;
+    let folder = fetch_folder(rt.alloc(), work, number)?;
+    let out = joined(rt.alloc(), folder.as_str(), "out")?;
+    places.note(rt.alloc(), out.as_str(), index)?;
     Ok((found, noted))
 }
 
-// A measure for the caller, and a copy for the log.
-fn measured_twice<R: World>(rt: &R, path: &Text) -> Result<(Measure, Measure), Trouble>
+// A measure for the caller, and a copy for the log, whose entry of this index is to have it.
+fn measured_twice<R: World>(
+    rt: &R,
+    places: &mut Places,
+    index: usize,
+    path: &Text,
+) -> Result<(Measure, Measure), Trouble>
     ensures { IfOk result (λ pair. pair.0 ≡ pair.1) }
 {
     let measure = measure_of(rt, path.as_str())?;
     let noted = measure.clone_in(rt.alloc())?;
+    places.note(rt.alloc(), path.as_str(), index)?;
     Ok((measure, noted))
 }
 

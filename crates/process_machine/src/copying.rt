@@ -1,189 +1,218 @@
-//! Copies of files and folders.
+//! Copies of files and folders, which have to be as they were told.
 
 use crate::identity::names;
-use crate::layout::{joined, make_parent};
-use crate::tree::{Below, Others, is_folder, tree_below};
-use crate::trouble::{Trouble, or_trouble};
-use std::alloc::Global;
-use std::fs::{File, Metadata, OpenFile, Permissions};
-use std::io::{Read, Write};
-use std::os::unix::fs::PermissionsExt;
-use std::rt::Files;
-use std::{fs, io, mem};
+use crate::layout::joined;
+use crate::listing::sum_at;
+use crate::making::{
+    give_rights_of, keep_permissions, made_anew, make_folder_as, new_file_in, new_folder_in,
+};
+use crate::measuring::measure_of;
+use crate::missed::note_changed;
+use crate::past::{Known, Past, known_of, name_in};
+use crate::summing::{copy_as_found, is_as_found};
+use crate::tree::is_folder;
+use crate::trouble::{Hindrance, Trouble, or_trouble};
+use crate::world::World;
+use plain_data::Text;
+use staging::Found;
+use std::alloc::{AllocError, Global};
+use std::fs::{File, OpenFile};
+use std::io::{Read, Take, Write};
+use std::{fs, mem};
 
-/// The bytes that one read asks for.
-const BLOCK: usize = 65_536;
-
-/// What the owner of a folder may do: read, write and search it. So it can be removed again.
-pub(crate) const OWNERS_RIGHTS: u32 = 0o700;
+/// What is copied is not as it was told.
+const CHANGED: Trouble = Trouble::Hindered(Hindrance::Changed);
 
 /// Copies a file, or a folder with all that is below it, to a path. A link is taken as what it points to.
 ///
+/// What a call has told of has to be as it was told: a file has its size and its sum, and of a folder that is copied which was told. Else
+/// it is trouble, and `changed` is the path of the first file or folder that is not. What no call told of is copied as it is.
+///
+/// The copy is made beside the path under a name of our own, and then takes its place, so what is at the path is whole at each moment.
 /// Replaces a file or link that is at the path a file is copied to; what the link points to is left alone. A folder
 /// that is at the path stays as it is, and so does a file where a folder is copied to: both are trouble. Where the copy
 /// fails, nothing of it is left. A file that is copied to where it is stays as it is.
-pub(crate) fn copy<R: AllocGlobal + Files + Clone + Drop>(
+pub(crate) fn copy<R: World>(
     rt: &R,
+    past: Past<'_>,
     source: &str,
     target: &str,
+    changed: &mut Option<Text>,
 ) -> Result<(), Trouble> {
-    if is_folder(rt, source)? {
-        copy_folder(rt, source, target)
-    } else {
-        copy_file(rt, source, target)
-    }
-}
-
-// All names are read before the first copy, so a folder can be copied to a place inside of it.
-fn copy_folder<R: AllocGlobal + Files + Clone + Drop>(
-    rt: &R,
-    source: &str,
-    target: &str,
-) -> Result<(), Trouble> {
-    let tree = tree_below(rt, source, Others::Refused)?;
-    let copied = copy_tree(rt, source, tree.as_slice(), target);
-    mem::drop(tree);
+    let copied = match past.known_at(source) {
+        Some(known) => copy_known(rt, known, source, target, changed),
+        None => copy_untold(rt, source, target, changed),
+    };
+    note_changed(rt.alloc(), source, &copied, changed);
     copied
 }
 
-fn copy_tree<R: AllocGlobal + Files>(
+fn copy_untold<R: World>(
     rt: &R,
     source: &str,
-    tree: &[Below],
     target: &str,
+    changed: &mut Option<Text>,
 ) -> Result<(), Trouble> {
-    make_folder(rt, source, target)?;
-    let filled = fill_folder(rt, source, tree, target);
-    if filled.is_err() {
-        let _removed = fs::remove_dir_all(rt, target);
-    }
-    filled
-}
-
-fn fill_folder<R: AllocGlobal + Files>(
-    rt: &R,
-    source: &str,
-    tree: &[Below],
-    target: &str,
-) -> Result<(), Trouble> {
-    for below in tree {
-        copy_below(rt, source, below, target)?;
-    }
-    Ok(())
-}
-
-fn copy_below<R: AllocGlobal + Files>(
-    rt: &R,
-    source: &str,
-    below: &Below,
-    target: &str,
-) -> Result<(), Trouble> {
-    let from = joined(rt.alloc(), source, below.name.as_str())?;
-    let to = joined(rt.alloc(), target, below.name.as_str())?;
-    if below.is_dir {
-        make_folder(rt, from.as_str(), to.as_str())
-    } else {
-        copy_file(rt, from.as_str(), to.as_str())
+    let measure = measure_of(rt, source)?;
+    match known_of(&measure) {
+        Some(known) => copy_known(rt, known, source, target, changed),
+        None => Err(Trouble::Failed),
     }
 }
 
-// Makes a folder with the permissions of another, and with its owner's rights.
-fn make_folder<R: Files>(rt: &R, source: &str, target: &str) -> Result<(), Trouble> {
-    let rights = folder_rights(rt, source)?;
-    or_trouble(fs::create_dir(rt, target))?;
-    or_trouble(fs::set_permissions(rt, target, rights))
+fn copy_known<R: World>(
+    rt: &R,
+    known: Known<'_>,
+    source: &str,
+    target: &str,
+    changed: &mut Option<Text>,
+) -> Result<(), Trouble> {
+    match known {
+        Known::File(size, sum) => {
+            let file = file_of(rt.alloc(), size, sum)?;
+            copy_file(rt, &file, source, target)
+        }
+        Known::Folder(found, name) => copy_folder(rt, found, name, source, target, changed),
+        Known::Nothing => Err(CHANGED),
+    }
 }
 
-/// The same of a folder that may be there. The folders above it are made where they are absent.
-pub(crate) fn make_folder_as<R: Files>(rt: &R, source: &str, target: &str) -> Result<(), Trouble> {
-    let rights = folder_rights(rt, source)?;
-    or_trouble(fs::create_dir_all(rt, target))?;
-    or_trouble(fs::set_permissions(rt, target, rights))
+// A file of this size and sum. Its name is told elsewhere.
+fn file_of(alloc: Global, size: u64, sum: &Text) -> Result<Found, AllocError> {
+    let sum = sum.copied(alloc)?;
+    Ok(Found {
+        name: Text::from_text(alloc, "")?,
+        is_dir: false,
+        size,
+        sum,
+    })
 }
 
-// The permissions of a folder, with its owner's rights.
-fn folder_rights<R: Files>(rt: &R, folder: &str) -> Result<Permissions, Trouble> {
-    let mode = mode_of(fs::metadata(rt, folder))?;
-    Ok(Permissions::from_mode(mode | OWNERS_RIGHTS))
-}
-
-/// The mode of what is at a path.
-pub(crate) fn mode_of(found: io::Result<Metadata>) -> Result<u32, Trouble> {
-    Ok(or_trouble(found)?.permissions().mode())
-}
-
-fn copy_file<R: AllocGlobal + Files>(rt: &R, source: &str, target: &str) -> Result<(), Trouble> {
+fn copy_file<R: World>(rt: &R, file: &Found, source: &str, target: &str) -> Result<(), Trouble> {
+    check_kind(rt, source, false)?;
     if names(rt, source, target) {
-        return Ok(());
+        return check_sum(rt, file, source);
     }
-    let mut reader = or_trouble(File::open(rt, source))?;
-    copy_from(rt, &mut reader, target)
-}
-
-fn copy_from<R: AllocGlobal + Files>(
-    rt: &R,
-    reader: &mut R::File,
-    target: &str,
-) -> Result<(), Trouble> {
-    clear(rt, target)?;
-    let mut writer = or_trouble(File::create_new(rt, target))?;
-    let filled = fill(rt.alloc(), reader, &mut writer);
+    let (path, mut writer) = new_file_in(rt, folder_of(target))?;
+    let filled = fill(rt, file, source, &mut writer);
     mem::drop(writer);
-    if filled.is_err() {
-        let _removed = fs::remove_file(rt, target);
+    let put = put_in_place(rt, path.as_str(), target, filled);
+    if put.is_err() {
+        let _removed = fs::remove_file(rt, path.as_str());
     }
-    filled
+    put
 }
 
-/// A new file at a path, in the place of a file or link that is there. The folders above it are made where they are absent.
-pub(crate) fn made_anew<R: Files>(rt: &R, path: &str) -> Result<R::File, Trouble> {
-    make_parent(rt, path)?;
-    clear(rt, path)?;
-    or_trouble(File::create_new(rt, path))
-}
-
-// Removes the file or link at a path, where there is one.
-fn clear<R: Files>(rt: &R, path: &str) -> Result<(), Trouble> {
-    match fs::remove_file(rt, path) {
-        Ok(()) => Ok(()),
-        Err(error) if error.kind() == io::ErrorKind::NotFound => Ok(()),
-        Err(error) => Err(Trouble::from(error)),
+fn check_sum<R: World>(rt: &R, file: &Found, path: &str) -> Result<(), Trouble> {
+    let sum = sum_at(rt, path)?;
+    if is_as_found(&sum, file) {
+        Ok(())
+    } else {
+        Err(CHANGED)
     }
 }
 
-fn fill<F: Read + Write + OpenFile>(
-    alloc: Global,
-    reader: &mut F,
-    writer: &mut F,
+fn put_in_place<R: World>(
+    rt: &R,
+    path: &str,
+    target: &str,
+    filled: Result<(), Trouble>,
 ) -> Result<(), Trouble> {
-    pour(alloc, reader, writer)?;
-    keep_permissions(reader, writer)
+    filled?;
+    or_trouble(fs::rename(rt, path, target))
 }
 
-/// Gives a copy the permissions of what it was read from.
-pub(crate) fn keep_permissions<F: OpenFile>(reader: &F, writer: &F) -> Result<(), Trouble> {
-    let permissions = or_trouble(reader.metadata())?.permissions();
-    or_trouble(writer.set_permissions(permissions))
+fn copy_folder<R: World>(
+    rt: &R,
+    found: &[Found],
+    name: &str,
+    source: &str,
+    target: &str,
+    changed: &mut Option<Text>,
+) -> Result<(), Trouble> {
+    check_kind(rt, source, true)?;
+    // An empty folder would be replaced.
+    if fs::symlink_metadata(rt, target).is_ok() {
+        return Err(Trouble::Hindered(Hindrance::Taken));
+    }
+    let path = new_folder_in(rt, folder_of(target))?;
+    let filled = fill_folder(rt, found, name, source, path.as_str(), changed);
+    let put = put_in_place(rt, path.as_str(), target, filled);
+    if put.is_err() {
+        let _removed = fs::remove_dir_all(rt, path.as_str());
+    }
+    put
 }
 
-// Reads to the end in blocks, and writes each.
-fn pour<F: Read + Write>(alloc: Global, reader: &mut F, writer: &mut F) -> Result<(), Trouble> {
-    let mut block = vec![in alloc; 0u8; BLOCK]?;
-    for _ in 0..u64::MAX {
-        if pour_block(reader, writer, &mut block)? == 0 {
-            return Ok(());
+fn fill_folder<R: World>(
+    rt: &R,
+    found: &[Found],
+    name: &str,
+    source: &str,
+    folder: &str,
+    changed: &mut Option<Text>,
+) -> Result<(), Trouble> {
+    for entry in found {
+        if let Some(name) = name_in(entry, name) {
+            let from = joined(rt.alloc(), source, name)?;
+            let copied = copy_entry(rt, entry, from.as_str(), folder, name);
+            note_changed(rt.alloc(), from.as_str(), &copied, changed);
+            copied?;
         }
     }
-    Err(Trouble::Failed)
+    give_rights_of(rt, source, folder)
 }
 
-// Reads into the block once, and writes what was read.
-fn pour_block<F: Read + Write>(
-    reader: &mut F,
+/// Copies what has to be as it was found, under this name below a folder. The folders between are made where they are absent, and the
+/// folder is not.
+pub(crate) fn copy_entry<R: World>(
+    rt: &R,
+    entry: &Found,
+    from: &str,
+    folder: &str,
+    name: &str,
+) -> Result<(), Trouble> {
+    check_kind(rt, from, entry.is_dir)?;
+    if entry.is_dir {
+        return make_folder_as(rt, from, folder, name);
+    }
+    let mut writer = made_anew(rt, folder, name)?;
+    let filled = fill(rt, entry, from, &mut writer);
+    mem::drop(writer);
+    filled
+}
+
+// What was told of has to be there still, a folder or a file as it was.
+fn check_kind<R: World>(rt: &R, path: &str, is_dir: bool) -> Result<(), Trouble> {
+    match is_folder(rt, path) {
+        Ok(found) if found == is_dir => Ok(()),
+        Ok(_) | Err(Trouble::Failed | Trouble::Hindered(Hindrance::Other)) => Err(CHANGED),
+        Err(trouble) => Err(trouble),
+    }
+}
+
+// Reads one byte more than there were at most.
+fn fill<R: World>(rt: &R, file: &Found, source: &str, writer: &mut R::File) -> Result<(), Trouble> {
+    let mut reader = File::open(rt, source)?.take(file.size.saturating_add(1));
+    let filled = fill_from(rt.alloc(), file, &mut reader, writer);
+    mem::drop(reader);
+    filled
+}
+
+fn fill_from<F: Read + Write + OpenFile>(
+    alloc: Global,
+    file: &Found,
+    reader: &mut Take<F>,
     writer: &mut F,
-    block: &mut [u8],
-) -> Result<usize, Trouble> {
-    let count = reader.read(block)?;
-    or_trouble(writer.write_all(&block[..count]))?;
-    Ok(count)
+) -> Result<(), Trouble> {
+    copy_as_found(alloc, file, reader, writer)?;
+    keep_permissions(reader.get_ref(), writer)
+}
+
+// The folder that has what is at a path.
+fn folder_of(path: &str) -> &str {
+    match path.rsplit_once('/') {
+        Some((folder, _)) => folder,
+        None => ".",
+    }
 }

@@ -1,20 +1,14 @@
-//! Results, and the files of the user's own that no result replaces.
+//! Results, and the files that no result replaces.
 
-use crate::identity::{FileId, file_at, file_behind, names};
+use crate::identity::{FileId, file_at, file_behind, is_id, names};
 use crate::layout::{copy_all, joined};
+use crate::missed::Missed;
+use crate::past::Past;
 use crate::trouble::{Hindrance, Trouble};
 use crate::world::World;
 use plain_data::Text;
 use proc_host::{Entry, HostAnswer, HostRequest};
 use staging::{Found, Measure, Move};
-use std::alloc::Global;
-
-/// A result that could not be copied: where it was to be, and why it is not there.
-#[derive(Drop)]
-pub struct Undelivered {
-    pub target: Text,
-    pub why: Hindrance,
-}
 
 // What is at the target of a move, and the move's index.
 #[derive(Clone, Copy, Drop)]
@@ -25,37 +19,41 @@ struct Standing {
 
 /// Copies results to their targets, each of which has to be below this folder.
 ///
-/// What was measured is what the run was given. Where one of these files is at a target nothing is copied, since it would be replaced. A
-/// result that is at its target already stays as it is. Where a copy fails, `at` is its index.
+/// What was measured is what the run was given. Where one of these files, or a guarded one, is at a target nothing is copied, since it would
+/// be replaced; nor where a guarded file would be. A result that is at its target already stays as it is. Where a copy fails, `missed` tells
+/// which.
 pub(crate) fn deliver_all<R: World>(
     rt: &R,
-    log: &[Entry],
+    past: Past<'_>,
+    guarded: &[Text],
     moves: &[Move],
     below: &str,
-    at: &mut usize,
+    missed: &mut Missed,
 ) -> Result<(), Trouble> {
-    let replaced = replaced_by(rt, moves)?;
-    if let Some(index) = measured_among(rt, log, replaced.as_slice())? {
-        *at = index;
-        return Err(Trouble::Hindered(Hindrance::Given));
+    match spoiling(rt, past.log, guarded, moves)? {
+        Some((index, why)) => {
+            missed.at = Some(index);
+            Err(Trouble::Hindered(why))
+        }
+        None => copy_all(rt, past, moves, below, missed),
     }
-    copy_all(rt, moves, below, at)
 }
 
-/// The result at this index, where it could not be copied and there is room to tell so.
-pub(crate) fn missed_result(
-    alloc: Global,
+// The index of a move that may not be made, and why.
+fn spoiling<R: World>(
+    rt: &R,
+    log: &[Entry],
+    guarded: &[Text],
     moves: &[Move],
-    at: usize,
-    outcome: Result<(), Trouble>,
-) -> Option<Undelivered> {
-    let Err(trouble) = outcome else {
-        return None;
-    };
-    let target = moves.get(at)?.target.copied(alloc).ok()?;
-    Some(Undelivered {
-        target,
-        why: trouble.hindrance(),
+) -> Result<Option<(usize, Hindrance)>, Trouble> {
+    let replaced = replaced_by(rt, moves)?;
+    let measured = measured_among(rt, log, replaced.as_slice())?;
+    Ok(match measured {
+        Some(index) => Some((index, Hindrance::Given)),
+        None => {
+            let index = guarded_among(rt, guarded, replaced.as_slice(), moves);
+            index.map(|index| (index, Hindrance::Guarded))
+        }
     })
 }
 
@@ -153,4 +151,75 @@ fn index_for(found: Option<FileId>, standing: &[Standing]) -> Option<usize> {
         }
     }
     None
+}
+
+// The index of a move that would replace what is at a guarded path, or put anything there.
+fn guarded_among<R: World>(
+    rt: &R,
+    guarded: &[Text],
+    standing: &[Standing],
+    moves: &[Move],
+) -> Option<usize> {
+    for path in guarded {
+        if let Some(index) = index_on(rt, path.as_str(), standing, moves) {
+            return Some(index);
+        }
+    }
+    None
+}
+
+// What is at the path is known by its number, and what is not there by its name.
+fn index_on<R: World>(rt: &R, path: &str, standing: &[Standing], moves: &[Move]) -> Option<usize> {
+    match file_at(rt, path) {
+        Some(_) => index_at(rt, path, standing),
+        None => index_making(rt, path, moves),
+    }
+}
+
+// The index of a move that would make something at a path.
+fn index_making<R: World>(rt: &R, path: &str, moves: &[Move]) -> Option<usize> {
+    let (folder, name) = parted(path);
+    let id = file_behind(rt, folder)?;
+    for (index, planned) in moves.iter().enumerate() {
+        if makes(rt, planned.target.as_str(), id, name) {
+            return Some(index);
+        }
+    }
+    None
+}
+
+// Whether a target, or a folder on the way to it, would be the entry of this name in this folder.
+fn makes<R: World>(rt: &R, target: &str, id: FileId, name: &str) -> bool {
+    for (at, _) in target.rmatch_indices('/') {
+        if let Some((folder, rest)) = target.split_at_checked(at) {
+            if goes_on_by(rest, name) && is_id(file_behind(rt, folder), id) {
+                return true;
+            }
+        }
+    }
+    false
+}
+
+// The folder of a path, and its name there.
+fn parted(path: &str) -> (&str, &str) {
+    match path.rsplit_once('/') {
+        Some(("", name)) => ("/", name),
+        Some((folder, name)) => (folder, name),
+        None => (".", path),
+    }
+}
+
+// Whether what follows a folder in a path begins with this name.
+fn goes_on_by(rest: &str, name: &str) -> bool {
+    match rest.strip_prefix('/') {
+        Some(rest) => begins_with(rest, name),
+        None => false,
+    }
+}
+
+fn begins_with(path: &str, name: &str) -> bool {
+    match path.strip_prefix(name) {
+        Some(rest) => rest.is_empty() || rest.starts_with('/'),
+        None => false,
+    }
 }

@@ -5,7 +5,7 @@ ghost use Rattle.process_machine.specs.inner.Taken.{AreTaken, IsTaken};
 ghost use Rattle.staging.specs.declared.found.Found.{Found};
 
 use crate::trouble::Trouble;
-use plain_data::{Items, Text};
+use plain_data::Items;
 use staging::Found;
 use std::alloc::Global;
 
@@ -42,9 +42,9 @@ pub(crate) trait Source {
     /// What there is under a name, where a contract can tell.
     ghost there: { Self → List ℕ → Option (Option Found) };
 
-    /// Takes what there is under a name.
-    fn take(&self, name: &Text) -> Result<Option<Found>, Trouble>
-        ensures { IfOk result (IsTaken (there self.now) name.now) };
+    /// Takes what there is under the name of an entry.
+    fn take(&self, file: &Found) -> Result<Option<Found>, Trouble>
+        ensures { IfOk result (IsTaken (there self.now) file.now.name) };
 }
 
 /// Takes what there is under the names of these entries, in their order.
@@ -68,7 +68,7 @@ fn take_next<S: Source>(source: &S, file: &Found, found: &mut Items<Found>) -> R
     ensures { OnOk result ((files : List Found) → AreTaken (S.there source.now) files found.old
         → AreTaken (S.there source.now) (files ++ file.now ∷ []) found.new) }
 {
-    if let Some(entry) = source.take(&file.name)? {
+    if let Some(entry) = source.take(file)? {
         found.push(entry)?;
     }
     Ok(())

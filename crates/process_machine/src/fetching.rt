@@ -3,9 +3,10 @@ ghost use Rattle.std.specs.Prelude.{◌≡◌, [], None, true, IfOk, IfSome, IsT
 ghost use Rattle.proc_host.specs.Answers.{are_among};
 
 use crate::archive::{fetch_folder, key_folder, leads_below};
-use crate::copying::{keep_permissions, made_anew, make_folder_as};
+use crate::cut_off::clear_stores;
 use crate::entries::{Source, take_all};
 use crate::layout::joined;
+use crate::making::{keep_permissions, made_anew, make_folder_as, make_private};
 use crate::summing::copy_told;
 use crate::trouble::Trouble;
 use crate::world::World;
@@ -13,7 +14,7 @@ use plain_data::{Items, Text};
 use staging::Found;
 use std::alloc::{AllocError, Global};
 use std::fs::{File, FileType, OpenFile};
-use std::io::{Read, Write};
+use std::io::{Read, Take, Write};
 use std::{fs, io, mem};
 
 // What was archived under a key, and where it is copied to.
@@ -49,6 +50,7 @@ pub(crate) fn fetch_all<R: World>(
     let Some(archive) = archive else {
         return Err(Trouble::Failed);
     };
+    clear_stores(rt, archive, key)?;
     let folder = key_folder(rt.alloc(), archive, key)?;
     let target = made_folder(rt, work, number)?;
     let archived = Archived {
@@ -68,7 +70,7 @@ fn made_folder<R: World>(rt: &R, work: &str, number: u64) -> Result<String, Trou
 }
 
 fn made_in<R: World>(rt: &R, folder: &str) -> Result<String, Trouble> {
-    fs::create_dir(rt, folder)?;
+    make_private(rt, folder)?;
     let out = joined(rt.alloc(), folder, "out")?;
     fs::create_dir(rt, out.as_str())?;
     Ok(out)
@@ -77,64 +79,57 @@ fn made_in<R: World>(rt: &R, folder: &str) -> Result<String, Trouble> {
 impl<R: World> Source for Archived<'_, R> {
     ghost there = { λ _ _. None };
 
-    fn take(&self, name: &Text) -> Result<Option<Found>, Trouble> {
-        let kind = kind_below(self.rt, self.folder, name.as_str())?;
+    fn take(&self, file: &Found) -> Result<Option<Found>, Trouble> {
+        let name = file.name.as_str();
+        let kind = kind_below(self.rt, self.folder, name)?;
         if kind == Kind::Absent {
             return Ok(None);
         }
-        let from = joined(self.rt.alloc(), self.folder, name.as_str())?;
-        let found = copied_below(self.rt, kind, from.as_str(), name, self.target);
+        let from = joined(self.rt.alloc(), self.folder, name)?;
+        let found = copied(self.rt, kind, from.as_str(), file, self.target);
         mem::drop(from);
         Ok(Some(found?))
     }
 }
 
-fn copied_below<R: World>(
+// Copies what is there, of this kind, and tells it under its name.
+fn copied<R: World>(
     rt: &R,
     kind: Kind,
     from: &str,
-    name: &Text,
+    file: &Found,
     target: &str,
 ) -> Result<Found, Trouble>
-    ensures { IfOk result (λ found. found.name ≡ name.now) }
-{
-    let to = joined(rt.alloc(), target, name.as_str())?;
-    let found = copied(rt, kind, from, name, to.as_str());
-    mem::drop(to);
-    found
-}
-
-// Copies what is there, of this kind, and tells it under its name.
-fn copied<R: World>(rt: &R, kind: Kind, from: &str, name: &Text, to: &str) -> Result<Found, Trouble>
-    ensures { IfOk result (λ found. found.name ≡ name.now) }
+    ensures { IfOk result (λ found. found.name ≡ file.now.name) }
 {
     match kind {
         Kind::Folder => {
-            make_folder_as(rt, from, to)?;
-            Ok(folder_named(rt.alloc(), name)?)
+            make_folder_as(rt, from, target, file.name.as_str())?;
+            Ok(folder_named(rt.alloc(), &file.name)?)
         }
-        _ => copy_file(rt, from, name, to),
+        _ => copy_file(rt, from, file, target),
     }
 }
 
-fn copy_file<R: World>(rt: &R, from: &str, name: &Text, to: &str) -> Result<Found, Trouble>
-    ensures { IfOk result (λ found. found.name ≡ name.now) }
+// Of a longer file than was stored one byte more is read. So it is told as another one, and its end is not waited for.
+fn copy_file<R: World>(rt: &R, from: &str, file: &Found, target: &str) -> Result<Found, Trouble>
+    ensures { IfOk result (λ found. found.name ≡ file.now.name) }
 {
-    let mut reader = File::open(rt, from)?;
-    let found = copy_from(rt, &mut reader, name, to);
+    let mut reader = File::open(rt, from)?.take(file.size.saturating_add(1));
+    let found = copy_from(rt, &mut reader, &file.name, target);
     mem::drop(reader);
     found
 }
 
 fn copy_from<R: World>(
     rt: &R,
-    reader: &mut R::File,
+    reader: &mut Take<R::File>,
     name: &Text,
-    to: &str,
+    target: &str,
 ) -> Result<Found, Trouble>
     ensures { IfOk result (λ found. found.name ≡ name.now) }
 {
-    let mut writer = made_anew(rt, to)?;
+    let mut writer = made_anew(rt, target, name.as_str())?;
     let found = fill(rt.alloc(), name, reader, &mut writer);
     mem::drop(writer);
     found
@@ -143,13 +138,13 @@ fn copy_from<R: World>(
 fn fill<F: Read + Write + OpenFile>(
     alloc: Global,
     name: &Text,
-    reader: &mut F,
+    reader: &mut Take<F>,
     writer: &mut F,
 ) -> Result<Found, Trouble>
     ensures { IfOk result (λ found. found.name ≡ name.now) }
 {
     let found = copy_told(alloc, name, reader, writer)?;
-    keep_permissions(reader, writer)?;
+    keep_permissions(reader.get_ref(), writer)?;
     Ok(found)
 }
 

@@ -41,7 +41,8 @@ fn id_of(metadata: io::Result<Metadata>) -> Option<FileId> {
     }
 }
 
-fn is_id(found: Option<FileId>, id: FileId) -> bool {
+/// Whether what was found is this.
+pub(crate) fn is_id(found: Option<FileId>, id: FileId) -> bool {
     match found {
         Some(other) => other == id,
         None => false,

@@ -3,7 +3,11 @@ ghost use Rattle.std.specs.Prelude.{◌≡◌, ℕ, List, IfSome, IsSome};
 ghost use Rattle.process_machine.specs.Targets as spec;
 
 use crate::copying::copy;
+use crate::making::make_private;
+use crate::missed::Missed;
+use crate::past::Past;
 use crate::trouble::{Trouble, or_trouble};
+use crate::world::World;
 use staging::{Move, StagePlan};
 use std::alloc::{AllocError, Global};
 use std::rt::Files;
@@ -12,25 +16,29 @@ use std::{fs, io};
 /// Makes the folder of a job with `out`, `tmp` and `in` in it, and copies the files and folders of its plan into `in`.
 ///
 /// The job's folder has to be absent.
-pub(crate) fn lay_out<R: AllocGlobal + Files + Clone + Drop>(
+pub(crate) fn lay_out<R: World>(
     rt: &R,
+    past: Past<'_>,
     work: &str,
     plan: &StagePlan,
     number: u64,
+    missed: &mut Missed,
 ) -> Result<(), Trouble> {
     let folder = job_folder(rt.alloc(), work, number)?;
-    lay_out_in(rt, folder.as_str(), plan)
+    lay_out_in(rt, past, folder.as_str(), plan, missed)
 }
 
-fn lay_out_in<R: AllocGlobal + Files + Clone + Drop>(
+fn lay_out_in<R: World>(
     rt: &R,
+    past: Past<'_>,
     folder: &str,
     plan: &StagePlan,
+    missed: &mut Missed,
 ) -> Result<(), Trouble> {
-    or_trouble(fs::create_dir(rt, folder))?;
+    or_trouble(make_private(rt, folder))?;
     make_parts(rt, folder)?;
     let inputs = joined(rt.alloc(), folder, "in")?;
-    copy_all(rt, plan.moves.as_slice(), inputs.as_str(), &mut 0)
+    copy_all(rt, past, plan.moves.as_slice(), inputs.as_str(), missed)
 }
 
 fn make_parts<R: AllocGlobal + Files>(rt: &R, folder: &str) -> Result<(), Trouble> {
@@ -53,32 +61,31 @@ pub(crate) fn joined(alloc: Global, folder: &str, name: &str) -> Result<String, 
 }
 
 /// Copies files and folders to their targets, each of which has to be below this folder. The folders between it and a target are
-/// made where they are absent, and none of them may be a link, since what is put there would be elsewhere. Where one fails, `at` is
-/// its index.
-pub(crate) fn copy_all<R: AllocGlobal + Files + Clone + Drop>(
+/// made where they are absent, and none of them may be a link, since what is put there would be elsewhere. Where one fails, `missed`
+/// tells which.
+pub(crate) fn copy_all<R: World>(
     rt: &R,
+    past: Past<'_>,
     moves: &[Move],
     below: &str,
-    at: &mut usize,
+    missed: &mut Missed,
 ) -> Result<(), Trouble> {
     for (index, planned) in moves.iter().enumerate() {
-        *at = index;
+        missed.at = Some(index);
         let target = planned.target.as_str();
         let Some(name) = name_below(target, below) else {
             return Err(Trouble::Failed);
         };
         make_way(rt, below, name)?;
-        copy(rt, planned.source.as_str(), target)?;
+        copy(
+            rt,
+            past,
+            planned.source.as_str(),
+            target,
+            &mut missed.changed,
+        )?;
     }
     Ok(())
-}
-
-/// Makes the folders above a path, where they are absent.
-pub(crate) fn make_parent<R: Files>(rt: &R, path: &str) -> Result<(), Trouble> {
-    match path.rsplit_once('/') {
-        Some((parent, _)) => or_trouble(fs::create_dir_all(rt, parent)),
-        None => Ok(()),
-    }
 }
 
 // Makes a folder, and the folders in it that lead to this name, where they are absent.
@@ -90,7 +97,12 @@ fn make_way<R: AllocGlobal + Files>(rt: &R, folder: &str, name: &str) -> Result<
     }
 }
 
-fn make_along<R: AllocGlobal + Files>(rt: &R, folder: &str, way: &str) -> Result<(), Trouble> {
+/// Makes the folders along a way below a folder, which is there. None of them may be a link.
+pub(crate) fn make_along<R: AllocGlobal + Files>(
+    rt: &R,
+    folder: &str,
+    way: &str,
+) -> Result<(), Trouble> {
     let mut path = String::from_str(rt.alloc(), folder)?;
     for part in way.split('/') {
         make_next(rt, &mut path, part)?;
@@ -105,7 +117,8 @@ fn make_next<R: Files>(rt: &R, path: &mut String, name: &str) -> Result<(), Trou
     make_own(rt, path.as_str())
 }
 
-fn make_own<R: Files>(rt: &R, path: &str) -> Result<(), Trouble> {
+/// Makes a folder where it is absent.
+pub(crate) fn make_own<R: Files>(rt: &R, path: &str) -> Result<(), Trouble> {
     match fs::create_dir(rt, path) {
         Ok(()) => Ok(()),
         Err(error) => found_own(rt, path, &error),

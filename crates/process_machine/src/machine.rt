@@ -4,9 +4,11 @@ ghost use Rattle.proc_host.specs.Log.{answer_behind, entries_of, FailsOnlyBy};
 ghost use Rattle.proc_host.specs.Tickets.{without};
 
 use crate::calls;
-use crate::delivering::Undelivered;
 use crate::hearing::{Deaf, Hear};
+use crate::missed::Undelivered;
+use crate::past::Places;
 use crate::spawning::Flying;
+use crate::trouble::Hindrance;
 use crate::unlisted::Unlisted;
 use crate::world::World;
 use command_line::Launch;
@@ -14,6 +16,7 @@ use plain_data::{Items, Text};
 use proc_host::{ChildEnd, Entry, Host, HostAnswer, HostError, HostFault, HostRequest, Ticket};
 use staging::{Found, Measure, StagePlan};
 use std::marker::Model;
+use std::mem;
 use std::process::Stdio;
 
 /// A host over real processes and files.
@@ -28,6 +31,7 @@ pub struct Machine<R: World> {
     archive: Option<Text>,
     outdir: Text,
     log: Vec<Entry>,
+    places: Places,
     running: Vec<u64>,
     // the children that were not collected yet, oldest first
     flying: Vec<Flying<R::Started, R::File>>,
@@ -36,10 +40,16 @@ pub struct Machine<R: World> {
     shows: bool,
     // whether the folders `in` and `tmp` of jobs stay
     keeps: bool,
-    // of the last delivery
+    // paths at which no delivery puts anything
+    guarded: Items<Text>,
+    // of the last stage or delivery
     hindered: Option<Undelivered>,
+    // of the last start
+    unstarted: Option<Hindrance>,
     // of the last scan
     unlisted: Option<Unlisted>,
+    // of the first store that the system refused
+    unstored: Option<Hindrance>,
 }
 
 impl<R: World> Model for Machine<R> {
@@ -51,7 +61,7 @@ impl<R: World> Model for Machine<R> {
 
     ghost coded = { Prim.hlevel (codes, value.the_row.coded) };
 
-    ghost view = { λ fields. record { log = fields.log.items; running = fields.running.items } };
+    ghost view = { λ fields. record { log = fields.log.items; running = fields.running.items; guarded = fields.guarded } };
 
     ghost invariant = { λ fields. IsInStep fields.log.items fields.running.items fields.started };
 }
@@ -61,7 +71,7 @@ impl<R: World> Machine<R> {
     /// whose outputs are delivered to `outdir`. These are paths from the root, since children run in folders of their own. Without an
     /// archive each fetch and each store fails.
     pub fn new(rt: R, work: Text, archive: Option<Text>, outdir: Text) -> Machine<R>
-        ensures { result ≡ record { log = []; running = [] } }
+        ensures { result ≡ record { log = []; running = []; guarded = [] } }
     {
         let alloc = rt.alloc();
         Machine {
@@ -70,13 +80,17 @@ impl<R: World> Machine<R> {
             archive,
             outdir,
             log: Vec::new(alloc),
+            places: Places::new(alloc),
             running: Vec::new(alloc),
             flying: Vec::new(alloc),
             started: 0,
             shows: false,
             keeps: false,
+            guarded: Items::new(alloc),
             hindered: None,
+            unstarted: None,
             unlisted: None,
+            unstored: None,
         }
     }
 
@@ -95,14 +109,32 @@ impl<R: World> Machine<R> {
         self.keeps = true;
     }
 
-    /// Which result of the last delivery could not be copied, and why, where that is known.
+    /// From now on no delivery replaces what is at one of these paths, where a link stands for what it leads to, or puts anything there: it
+    /// fails, and copies nothing. They take the place of those that were guarded before.
+    pub fn guard(&mut self, paths: Items<Text>)
+        ensures { self.new ≡ record self.old { guarded = paths } }
+    {
+        mem::drop(mem::replace(&mut self.guarded, paths));
+    }
+
+    /// What the last stage or delivery could not copy, and why, where that is known.
     pub fn undelivered(&self) -> Option<&Undelivered> {
         self.hindered.as_ref()
+    }
+
+    /// What hindered the last start that failed, where the system says so.
+    pub fn unstarted(&self) -> Option<Hindrance> {
+        self.unstarted
     }
 
     /// What kept the last scan from a listing, and why, where that is known.
     pub fn unlisted(&self) -> Option<&Unlisted> {
         self.unlisted.as_ref()
+    }
+
+    /// What hindered the first store that failed, where the system says so.
+    pub fn unstored(&self) -> Option<Hindrance> {
+        self.unstored
     }
 
     /// What was asked and answered so far, oldest first.
@@ -147,11 +179,19 @@ where
     ghost running = { λ state. state.running };
 
     fn measure(&mut self, path: &Text) -> Result<Measure, HostError> {
-        calls::measure(&self.rt, &mut self.log, path)
+        calls::measure(&self.rt, &mut self.log, &mut self.places, path)
     }
 
     fn stage(&mut self, plan: &StagePlan, number: u64) -> Result<(), HostError> {
-        calls::stage(&self.rt, &mut self.log, self.work.as_str(), plan, number)
+        calls::stage(
+            &self.rt,
+            &mut self.log,
+            &self.places,
+            self.work.as_str(),
+            plan,
+            number,
+            &mut self.hindered,
+        )
     }
 
     fn start(&mut self, launch: &Launch) -> Result<Ticket, HostError> {
@@ -164,6 +204,7 @@ where
             launch,
             ticket,
             self.shows,
+            &mut self.unstarted,
         )?;
         self.started = ticket;
         Ok(Ticket::new(ticket))
@@ -175,7 +216,14 @@ where
 
     fn scan(&mut self, folder: &Text) -> Result<Items<Found>, HostError> {
         let work = cleared_below(&self.work, self.keeps);
-        calls::scan(&self.rt, &mut self.log, work, folder, &mut self.unlisted)
+        calls::scan(
+            &self.rt,
+            &mut self.log,
+            &mut self.places,
+            work,
+            folder,
+            &mut self.unlisted,
+        )
     }
 
     fn head(&mut self, path: &Text, limit: u64) -> Result<Items<u8>, HostError> {
@@ -191,6 +239,7 @@ where
         calls::fetch(
             &self.rt,
             &mut self.log,
+            &mut self.places,
             self.work.as_str(),
             path_in(&self.archive),
             key,
@@ -200,14 +249,23 @@ where
     }
 
     fn store(&mut self, key: &Text, folder: &Text, files: &Items<Found>) -> Result<(), HostError> {
-        let archive = path_in(&self.archive);
-        calls::store(&self.rt, &mut self.log, archive, key, folder, files)
+        calls::store(
+            &self.rt,
+            &mut self.log,
+            path_in(&self.archive),
+            key,
+            folder,
+            files,
+            &mut self.unstored,
+        )
     }
 
     fn deliver(&mut self, plan: &StagePlan) -> Result<(), HostError> {
         calls::deliver(
             &self.rt,
             &mut self.log,
+            &self.places,
+            self.guarded.as_slice(),
             self.outdir.as_str(),
             plan,
             &mut self.hindered,

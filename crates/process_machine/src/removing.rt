@@ -1,108 +1,136 @@
 //! The removal of folders that commands wrote.
 
-use crate::copying::{OWNERS_RIGHTS, mode_of};
+use crate::making::{OWNERS_RIGHTS, mode_of, new_folder_in};
 use crate::trouble::{Trouble, or_trouble};
-use plain_data::Text;
-use std::alloc::Global;
-use std::fs::{DirEntry, Permissions};
+use std::fs::{Permissions, ReadDir};
 use std::os::unix::fs::PermissionsExt;
 use std::rt::Files;
 use std::{fs, io, mem};
 
 /// Removes a folder with all that is below it. No link is followed.
 ///
-/// A command may have left a folder from which its owner can't remove anything. So where the removal is not allowed, each folder
-/// that is below is given its owner's rights to read, write and search, and the removal is tried again.
+/// A command may have left a folder from which its owner can't remove anything, so each one is given its owner's rights to read, write and
+/// search. It may have left more folders in one another than a path can name, so each folder that is met is moved up into one of
+/// our own, and is emptied there: once, by a short path. What can't be moved up so, as a folder whose name is no UTF-8, the system removes.
 pub fn remove_folder<R: AllocGlobal + Files + Clone + Drop>(
     rt: &R,
     folder: &str,
 ) -> io::Result<()> {
-    match fs::remove_dir_all(rt, folder) {
-        Err(error) if error.kind() == io::ErrorKind::PermissionDenied => {
-            // Where this fails, so does the removal.
-            let _opened = open_folders(rt, folder);
-            fs::remove_dir_all(rt, folder)
-        }
-        outcome => outcome,
+    if fs::remove_dir(rt, folder).is_ok() {
+        return Ok(());
+    }
+    // Where this fails, so does the removal, or the system does it.
+    let _emptied = empty(rt, folder);
+    match fs::remove_dir(rt, folder) {
+        Ok(()) => Ok(()),
+        Err(_) => fs::remove_dir_all(rt, folder),
     }
 }
 
-// Gives a folder, and each one below it, its owner's rights, as far as this is allowed.
-fn open_folders<R: AllocGlobal + Files + Clone + Drop>(
-    rt: &R,
-    folder: &str,
-) -> Result<(), Trouble> {
-    let mut folders = Vec::new(rt.alloc());
-    add_path(rt.alloc(), folder, &mut folders)?;
-    for _ in 0..u64::MAX {
-        match folders.pop() {
-            Some(folder) => open_next(rt, folder, &mut folders)?,
-            None => return Ok(()),
-        }
-    }
-    Ok(())
-}
-
-// Gives a folder its owner's rights, and adds the folders in it. One that can't be read holds up none of the others.
-fn open_next<R: AllocGlobal + Files + Clone + Drop>(
-    rt: &R,
-    folder: Text,
-    folders: &mut Vec<Text>,
-) -> Result<(), Trouble> {
-    let opened = open_folder(rt, folder.as_str(), folders);
-    mem::drop(folder);
-    match opened {
-        Err(Trouble::OutOfMemory) => Err(Trouble::OutOfMemory),
-        _ => Ok(()),
-    }
-}
-
-fn open_folder<R: AllocGlobal + Files + Clone + Drop>(
-    rt: &R,
-    folder: &str,
-    folders: &mut Vec<Text>,
-) -> Result<(), Trouble> {
+fn empty<R: AllocGlobal + Files + Clone + Drop>(rt: &R, folder: &str) -> Result<(), Trouble> {
     give_rights(rt, folder)?;
-    for entry in or_trouble(fs::read_dir(rt, folder))? {
-        add_next(rt.alloc(), entry, folders)?;
+    let lifted = new_folder_in(rt, folder)?;
+    let emptied = empty_into(rt, folder, lifted.as_str());
+    let _removed = fs::remove_dir(rt, lifted.as_str());
+    mem::drop(lifted);
+    emptied
+}
+
+// Empties a folder, and each that was moved up from it or from one of these. They have the numbers from 0 in the folder of our own.
+fn empty_into<R: AllocGlobal + Files + Clone + Drop>(
+    rt: &R,
+    folder: &str,
+    lifted: &str,
+) -> Result<(), Trouble> {
+    let mut count = lift_from(rt, folder, lifted, 0)?;
+    for number in 0..u64::MAX {
+        if number >= count {
+            return Ok(());
+        }
+        count = remove_lifted(rt, lifted, number, count)?;
     }
     Ok(())
 }
 
-fn give_rights<R: Files>(rt: &R, folder: &str) -> Result<(), Trouble> {
-    let mode = mode_of(fs::symlink_metadata(rt, folder))?;
+fn remove_lifted<R: AllocGlobal + Files + Clone + Drop>(
+    rt: &R,
+    lifted: &str,
+    number: u64,
+    count: u64,
+) -> Result<u64, Trouble> {
+    let path = format!(in rt.alloc(); "{lifted}/{number}")?;
+    let count = lift_from(rt, path.as_str(), lifted, count)?;
+    let _removed = fs::remove_dir(rt, path.as_str());
+    Ok(count)
+}
+
+// Removes what is in a folder, and moves the folders in it up. Tells how many were moved up so far. What can't be read stays.
+fn lift_from<R: AllocGlobal + Files + Clone + Drop>(
+    rt: &R,
+    folder: &str,
+    lifted: &str,
+    count: u64,
+) -> Result<u64, Trouble> {
+    match fs::read_dir(rt, folder) {
+        Ok(entries) => lift_all(rt, entries, lifted, count),
+        Err(_) => Ok(count),
+    }
+}
+
+fn lift_all<R: AllocGlobal + Files + Clone + Drop>(
+    rt: &R,
+    entries: ReadDir<R>,
+    lifted: &str,
+    before: u64,
+) -> Result<u64, Trouble> {
+    let mut count = before;
+    for entry in entries {
+        if let Ok(entry) = entry {
+            count = remove_or_lift(rt, entry.path().as_str(), lifted, count)?;
+        }
+    }
+    Ok(count)
+}
+
+fn remove_or_lift<R: AllocGlobal + Files>(
+    rt: &R,
+    path: &str,
+    lifted: &str,
+    count: u64,
+) -> Result<u64, Trouble> {
+    match fs::remove_file(rt, path) {
+        Err(error) if error.kind() == io::ErrorKind::IsADirectory && path != lifted => {
+            lift(rt, path, lifted, count)
+        }
+        _ => Ok(count),
+    }
+}
+
+fn lift<R: AllocGlobal + Files>(
+    rt: &R,
+    path: &str,
+    lifted: &str,
+    count: u64,
+) -> Result<u64, Trouble> {
+    let target = format!(in rt.alloc(); "{lifted}/{count}")?;
+    // A folder that its owner may not write to can't be moved.
+    let _given = give_rights(rt, path);
+    match fs::rename(rt, path, target.as_str()) {
+        Ok(()) => Ok(count.saturating_add(1)),
+        Err(_) => Ok(count),
+    }
+}
+
+// Gives a folder its owner's rights; what is none is trouble.
+fn give_rights<R: Files>(rt: &R, path: &str) -> Result<(), Trouble> {
+    let metadata = or_trouble(fs::symlink_metadata(rt, path))?;
+    if !metadata.is_dir() {
+        return Err(Trouble::Failed);
+    }
+    let mode = metadata.permissions().mode();
     if mode & OWNERS_RIGHTS == OWNERS_RIGHTS {
         return Ok(());
     }
     let rights = Permissions::from_mode(mode | OWNERS_RIGHTS);
-    or_trouble(fs::set_permissions(rt, folder, rights))
-}
-
-// What has no name that can be told is left as it is.
-fn add_next<R: Files + Drop>(
-    alloc: Global,
-    entry: io::Result<DirEntry<R>>,
-    folders: &mut Vec<Text>,
-) -> Result<(), Trouble> {
-    match entry {
-        Ok(entry) => add_folder(alloc, &entry, folders),
-        Err(_) => Ok(()),
-    }
-}
-
-// Adds an entry that is a folder, and no link to one.
-fn add_folder<R: Files>(
-    alloc: Global,
-    entry: &DirEntry<R>,
-    folders: &mut Vec<Text>,
-) -> Result<(), Trouble> {
-    match entry.file_type() {
-        Ok(kind) if kind.is_dir() => add_path(alloc, entry.path().as_str(), folders),
-        _ => Ok(()),
-    }
-}
-
-fn add_path(alloc: Global, path: &str, folders: &mut Vec<Text>) -> Result<(), Trouble> {
-    let path = Text::from_text(alloc, path)?;
-    Ok(folders.push(path)?)
+    or_trouble(fs::set_permissions(rt, path, rights))
 }

@@ -1,18 +1,15 @@
 //! How jobs' files are archived.
 ghost use Rattle.std.specs.Prelude.{None};
 
-use crate::archive::{beside_folder, key_folder, leads_below};
-use crate::copying::{keep_permissions, made_anew, make_folder_as};
+use crate::archive::{beside_folder, key_folder, leads_below, stores_folder};
+use crate::copying::copy_entry;
+use crate::cut_off::clear_stores;
 use crate::entries::{Sink, put_all};
-use crate::layout::joined;
-use crate::summing::copy_as_found;
-use crate::tree::is_folder;
+use crate::layout::{joined, make_own};
+use crate::making::make_private;
 use crate::trouble::Trouble;
 use crate::world::World;
 use staging::Found;
-use std::alloc::Global;
-use std::fs::{File, OpenFile};
-use std::io::{Read, Write};
 use std::{fs, io, mem};
 
 // A new folder of an archive, and the folder that its files are copied from.
@@ -39,13 +36,31 @@ pub(crate) fn store_all<R: World>(
         return Err(Trouble::Failed);
     };
     fs::create_dir_all(rt, archive)?;
-    let beside = beside_folder(rt.alloc(), archive, folder)?;
+    clear_stores(rt, archive, key)?;
+    let stores = stores_folder(rt.alloc(), archive, key)?;
+    let stored = store_among(rt, stores.as_str(), archive, key, folder, files);
+    // Another store may go on there.
+    let _removed = fs::remove_dir(rt, stores.as_str());
+    mem::drop(stores);
+    stored
+}
+
+fn store_among<R: World>(
+    rt: &R,
+    stores: &str,
+    archive: &str,
+    key: &str,
+    folder: &str,
+    files: &[Found],
+) -> Result<(), Trouble> {
+    make_own(rt, stores)?;
+    let beside = beside_folder(rt.alloc(), archive, key, folder)?;
     let stored = store_beside(rt, beside.as_str(), archive, key, folder, files);
     mem::drop(beside);
     stored
 }
 
-// Fills a folder beside the key's, which then takes its place. One may be left of a run that was cut off.
+// Fills a folder beside the key's, which then takes its place.
 fn store_beside<R: World>(
     rt: &R,
     beside: &str,
@@ -54,8 +69,7 @@ fn store_beside<R: World>(
     folder: &str,
     files: &[Found],
 ) -> Result<(), Trouble> {
-    where_present(fs::remove_dir_all(rt, beside))?;
-    fs::create_dir(rt, beside)?;
+    make_private(rt, beside)?;
     let stored = match fill_new(rt, beside, folder, files) {
         Ok(()) => put_in_place(rt, beside, archive, key),
         Err(trouble) => Err(trouble),
@@ -118,52 +132,11 @@ impl<R: World> Sink for New<'_, R> {
     ghost holds = { λ _. None };
 
     fn put(&mut self, file: &Found) -> Result<(), Trouble> {
-        if !leads_below(file.name.as_str()) {
+        let name = file.name.as_str();
+        if !leads_below(name) {
             return Err(Trouble::Failed);
         }
-        let from = joined(self.rt.alloc(), self.source, file.name.as_str())?;
-        let to = joined(self.rt.alloc(), self.folder, file.name.as_str())?;
-        copy_as(self.rt, file, from.as_str(), to.as_str())
+        let from = joined(self.rt.alloc(), self.source, name)?;
+        copy_entry(self.rt, file, from.as_str(), self.folder, name)
     }
-}
-
-// Copies what has to be as it was found.
-fn copy_as<R: World>(rt: &R, file: &Found, from: &str, to: &str) -> Result<(), Trouble> {
-    if is_folder(rt, from)? != file.is_dir {
-        return Err(Trouble::Failed);
-    }
-    if file.is_dir {
-        make_folder_as(rt, from, to)
-    } else {
-        copy_file(rt, file, from, to)
-    }
-}
-
-fn copy_file<R: World>(rt: &R, file: &Found, from: &str, to: &str) -> Result<(), Trouble> {
-    let mut reader = File::open(rt, from)?;
-    let copied = copy_from(rt, &mut reader, file, to);
-    mem::drop(reader);
-    copied
-}
-
-fn copy_from<R: World>(
-    rt: &R,
-    reader: &mut R::File,
-    file: &Found,
-    to: &str,
-) -> Result<(), Trouble> {
-    let mut writer = made_anew(rt, to)?;
-    let filled = fill(rt.alloc(), file, reader, &mut writer);
-    mem::drop(writer);
-    filled
-}
-
-fn fill<F: Read + Write + OpenFile>(
-    alloc: Global,
-    file: &Found,
-    reader: &mut F,
-    writer: &mut F,
-) -> Result<(), Trouble> {
-    copy_as_found(alloc, file, reader, writer)?;
-    keep_permissions(reader, writer)
 }

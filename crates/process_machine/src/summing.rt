@@ -4,7 +4,7 @@ ghost use Rattle.file_values.specs.Sum.{SumsHeld};
 ghost use Rattle.process_machine.specs.Copied.{IsCopied};
 ghost use Rattle.process_machine.specs.inner.Piece.{IsPiece};
 
-use crate::trouble::Trouble;
+use crate::trouble::{Hindrance, Trouble};
 use file_values::FileSum;
 use plain_data::Text;
 use sha1::Sha1;
@@ -30,11 +30,12 @@ pub(crate) fn copy_as_found<F: Read, W: Write>(
     if is_as_found(&sum, file) {
         Ok(())
     } else {
-        Err(Trouble::Failed)
+        Err(Trouble::Hindered(Hindrance::Changed))
     }
 }
 
-fn is_as_found(sum: &FileSum, file: &Found) -> bool
+/// Whether a sum is that of a file as it was found.
+pub(crate) fn is_as_found(sum: &FileSum, file: &Found) -> bool
     ensures { IsTrue result → sum.now ≡ record { sum = file.now.sum; size = file.now.size } }
 {
     sum.size == file.size && sum.sum.equals(&file.sum)

@@ -11,17 +11,23 @@ pub(crate) enum Trouble {
     OutOfMemory,
 }
 
-/// Why a result could not be copied to its target.
+/// Why a file could not be copied to its target, or a command not be started.
 #[derive(Clone, Copy, Debug, PartialEq, Eq)]
 pub enum Hindrance {
     /// A file that the run was given is there.
     Given,
+    /// A guarded file is there, or would be.
+    Guarded,
     /// A folder is in the way, or a file or a link where a folder is needed.
     Taken,
     /// The system does not allow it.
     Forbidden,
     /// There is no room.
     Full,
+    /// What was to be copied is not as it was told.
+    Changed,
+    /// The command, or one of its words, is longer than the system takes.
+    TooLong,
     Other,
 }
 
@@ -59,6 +65,7 @@ fn hindrance_of(kind: io::ErrorKind) -> Hindrance {
             Hindrance::Forbidden
         }
         io::ErrorKind::StorageFull | io::ErrorKind::QuotaExceeded => Hindrance::Full,
+        io::ErrorKind::ArgumentListTooLong => Hindrance::TooLong,
         _ => Hindrance::Other,
     }
 }
@@ -72,7 +79,7 @@ impl Trouble {
         }
     }
 
-    /// Why a copy was not made.
+    /// Why a copy was not made, or a command not started.
     pub(crate) fn hindrance(self) -> Hindrance {
         match self {
             Trouble::Hindered(why) => why,
