@@ -1,6 +1,6 @@
 -- Which jobs of the graph of the plan in force cost there what they cost now, by what is touched.
 use Rattle.std.specs.Prelude.{◌&&◌, ◌<◌, ◌≤◌, not, length, slice_get}
-use Rattle.std.proofs.Common.{◌≡◌, ◌≢◌, ◌∙◌, ◌∷◌, ℕ, zero, suc, Bool, true, List, [], Option, Some, None, map, refl, sym, ap, ap₂, subst, arith}
+use Rattle.std.proofs.Common.{◌≡◌, ◌≢◌, ◌∙◌, ◌∷◌, ◌+◌, ℕ, zero, suc, Bool, true, List, [], Option, Some, None, map, refl, sym, ap, ap₂, subst, arith}
 use Rattle.std.proofs.Props.{props}
 use Rattle.std.specs.List.{zip}
 use Rattle.job_graph.specs.Jobs.{Job}
@@ -16,7 +16,9 @@ use Rattle.plan_keeper.specs.declared.planned.Planned.{Planned}
 use Rattle.run_plan.specs.Costs.{LoadRates, costs_of}
 use Rattle.run_plan.specs.Touched.{AreOfFirst, costs_in, graph_in}
 use Rattle.run_plan.proofs.First.{present_first}
+use Rattle.run_rules.specs.declared.outcome.PlanNote.{PlanNote}
 use Rattle.run_rules.specs.declared.request.RecordAnswer.{RecordAnswer}
+use Rattle.run_core.specs.declared.counts.PlanCounts.{PlanCounts}
 use Rattle.run_core.specs.declared.job_states.JobState.{JobState}
 use Rattle.run_core.specs.declared.state.Course.{Course}
 use Rattle.run_core.specs.declared.state.Given.{Given}
@@ -171,16 +173,24 @@ fits_once rates keep jobs lost rows touched planned = Prim.hlevel props
 first_once : (is_first : Bool) (graph : List Vertex) (jobs : List Job) (some other : is_first ≡ true → AreOfFirst graph jobs) → some ≡ other
 first_once is_first graph jobs = Prim.hlevel props
 
+counted_once : (counts : PlanCounts) (plans : List PlanNote) (some other : counts.brought + counts.anew ≡ length plans) → some ≡ other
+counted_once counts plans = Prim.hlevel props
+
 -- a course is the same where its jobs are
 pub same_course : (course : Course) (jobs : List JobState) (fits : Fits course.rates course.keep jobs course.lost.items course.rows course.touched course.planned)
-    (first : course.of_first ≡ true → AreOfFirst (graph_in course.planned) (known_in course.known)) → jobs ≡ course.jobs →
-    record course { jobs = jobs; fits = fits; first = first } ≡ course
-same_course course jobs fits first is =
-    subst (λ (states : List JobState). (its : Fits course.rates course.keep states course.lost.items course.rows course.touched course.planned) → record course { jobs = states; fits = its; first = first } ≡ course)
+    (counted : course.counts.brought + course.counts.anew ≡ length course.plans.items) (first : course.of_first ≡ true → AreOfFirst (graph_in course.planned) (known_in course.known)) →
+    jobs ≡ course.jobs → record course { jobs = jobs; fits = fits; counted = counted; first = first } ≡ course
+same_course course jobs fits counted first is =
+    subst
+    (λ (states : List JobState).
+    (its : Fits course.rates course.keep states course.lost.items course.rows course.touched course.planned) →
+    record course { jobs = states; fits = its; counted = counted; first = first } ≡ course)
     (sym is)
     (λ its.
     ap₂ (λ (f : Fits course.rates course.keep course.jobs course.lost.items course.rows course.touched course.planned)
-    (g : course.of_first ≡ true → AreOfFirst (graph_in course.planned) (known_in course.known)). record course { fits = f; first = g })
+    (g : course.of_first ≡ true → AreOfFirst (graph_in course.planned) (known_in course.known)). record course { fits = f; counted = counted; first = g })
     (fits_once course.rates course.keep course.jobs course.lost.items course.rows course.touched course.planned its course.fits)
-    (first_once course.of_first (graph_in course.planned) (known_in course.known) first course.first))
+    (first_once course.of_first (graph_in course.planned) (known_in course.known) first course.first)
+    ∙ ap (λ (c : course.counts.brought + course.counts.anew ≡ length course.plans.items). record course { counted = c })
+    (counted_once course.counts course.plans.items counted course.counted))
     fits

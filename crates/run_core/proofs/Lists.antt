@@ -13,6 +13,10 @@ pub where_ok : {X E : Type 0} {P Q : Type 0} (result : Result X E) → (P → Q)
 where_ok (Ok x) leads holds = leads holds
 where_ok (Err error) leads holds = tt
 
+pub both_ok : {X E : Type 0} {P Q R : Type 0} (result : Result X E) → (P → Q → R) → OnOk result P → OnOk result Q → OnOk result R
+both_ok (Ok x) leads some more = leads some more
+both_ok (Err error) leads some more = tt
+
 -- a list of none
 pub none_in : {X : Type 0} (xs : List X) → length xs < 1 → xs ≡ []
 none_in [] none = refl

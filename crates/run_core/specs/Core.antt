@@ -1,5 +1,5 @@
 -- What each call of the machine does.
-use Rattle.std.specs.Prelude.{◌≡◌, ◌≢◌, ◌<◌, ℕ, List, [], ◌∷◌, ◌++◌, Option, Some, None, Result, Err, IfErr, OnOk, OnErr}
+use Rattle.std.specs.Prelude.{◌≡◌, ◌≢◌, ◌<◌, ◌+◌, ℕ, List, [], ◌∷◌, ◌++◌, Option, Some, None, Result, Err, IfErr, OnOk, OnErr, length}
 use Rattle.document_links.specs.declared.process.Process.{Process}
 use Rattle.plan_checker.specs.Certificate.{IsCertificate}
 use Rattle.run_rules.specs.declared.outcome.RunFault.{RunFault}
@@ -19,6 +19,7 @@ use Rattle.job_graph.specs.Words.{Fields}
 use Rattle.proc_host.specs.declared.call.HostAnswer.{HostAnswer}
 use Rattle.proc_host.specs.declared.call.HostFault.{HostFault}
 use Rattle.proc_host.specs.declared.call.HostRequest.{HostRequest}
+use Rattle.run_core.specs.declared.counts.PlanCounts.{PlanCounts}
 use Rattle.run_core.specs.Machine.{Machine, PlanNow, is_draining, is_over}
 use Rattle.run_core.specs.Order.{IsFirst}
 
@@ -52,6 +53,13 @@ pub record HasPlans (core : Machine) : Type 0 where
   pub plans : PlansSoFar
   pub run : IsRunSoFar core.setting core.transcript happened plans
   pub shows : Shows plans core.plan
+
+-- what it asked and was answered is a run so far, and these count a plan for each of its planning points
+pub record HasCounted (core : Machine) (counts : PlanCounts) : Type 0 where
+  pub happened : Progress
+  pub plans : PlansSoFar
+  pub run : IsRunSoFar core.setting core.transcript happened plans
+  pub each : counts.brought + counts.anew ≡ length plans.notes
 
 -- what it asked and was answered is a run so far, whose plan it shows and after which it may ask what it asks, the first of all that it may ask, under
 -- the key of its job; or memory ran out, and after a run so far it only waits for the children in flight

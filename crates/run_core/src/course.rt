@@ -11,6 +11,7 @@ ghost use Rattle.run_core.specs.inner.FoundRows.{rows_after};
 ghost use Rattle.run_core.specs.inner.Touched.{TouchesBelow};
 ghost use Rattle.run_plan.specs.Touched.{graph_in};
 
+use crate::counts::NO_PLANS;
 use crate::found_rows::FoundRows;
 use crate::job_states::JobStates;
 use crate::state::{Course, Flight, Kept};
@@ -45,6 +46,7 @@ pub(crate) fn at_first<'a>(alloc: Global) -> Course<'a>
         rates: Rates::new(0, 1),
         keep: false,
         plans: Vec::new(alloc),
+        counts: NO_PLANS,
         known: None,
         of_first: false,
         end: None,

@@ -11,6 +11,7 @@ mod anyway;
 mod archiving;
 mod choice;
 mod collects;
+mod counts;
 mod course;
 mod delivery;
 mod fetching;
@@ -36,6 +37,7 @@ mod touches;
 mod turn;
 mod turns;
 
+pub use counts::PlanCounts;
 pub use run_rules::{
     Answer, Cause, CollectCause, Note, NoteKind, Options, Outcome, Pair, PlanNote, RecordAnswer,
     RecordRequest, Report, Request, RunFault, Setting,

@@ -1,15 +1,16 @@
-//! The plan in force: the Least plan of the present job graph, made anew at each planning point.
-ghost use Rattle.std.specs.Prelude.{◌≡◌, ◌<◌, All, IfOk, MatchBool, MatchOption, OnOk, Some, [], length};
+//! The plan in force: the Least plan of the present job graph, brought up to date or made anew at each planning point.
+ghost use Rattle.std.specs.Prelude.{◌≡◌, ◌↔◌, ◌<◌, All, IfOk, MatchBool, MatchOption, OnOk, Some, [], length};
 ghost use Rattle.job_graph.specs.PresentJobGraph.{AreWithin};
 ghost use Rattle.plan_checker.specs.Plan.{mark};
 ghost use Rattle.run_core.specs.inner.Course.{known_in as jobs_in, past_of, with_plan};
 ghost use Rattle.run_core.specs.inner.Marks.{is_compute, is_load, marks_in};
-ghost use Rattle.run_core.specs.inner.Planning.{AllThere, AreCosts, IsLentTo, IsPlanAt, IsToldPlan, PlansNothing, Replans, SomeAway, costs_at};
+ghost use Rattle.run_core.specs.inner.Planning.{AllThere, AreCosts, Counts, IsLentTo, IsNextAt, IsToldPlan, PlansNothing, Replans, SomeAway, costs_at, counted};
 ghost use Rattle.run_core.specs.inner.Few.{AreFew};
 ghost use Rattle.run_core.specs.inner.Fits.{Fits};
 ghost use Rattle.run_plan.specs.Touched.{AreOfFirst};
 
 use crate::PlanNote;
+use crate::counts::counted;
 use crate::course::known_in;
 use crate::fetching::can_load;
 use crate::few::{Few, few_in};
@@ -17,17 +18,18 @@ use crate::state::{Course, Given};
 use crate::touches::Touched;
 use job_graph::{Costs, UnfoldError};
 use plan_checker::Mark;
-use run_plan::{KeptPlan, Standing, costs_of, costs_without_row, plan_on, plan_touched};
+use run_plan::{KeptPlan, NextPlan, Standing, costs_of, costs_without_row, plan_on, plan_touched};
 use std::alloc::{AllocError, Global};
 use std::mem;
 
-/// Makes the plan anew where some known job isn't at hand; else the last one stays in force.
+/// Makes a plan where some known job isn't at hand, and counts it; else the last one stays in force.
 pub(crate) fn replan(
     alloc: Global,
     given: &Given<'_>,
     course: &mut Course<'_>,
 ) -> Result<(), AllocError>
     ensures replans { OnOk result (Replans given.now course.old course.new) }
+    ensures counts { OnOk result (Counts course.old course.new) }
     ensures tickets { course.new.tickets.items ≡ course.old.tickets.items }
     ensures folders { course.new.folders ≡ course.old.folders }
 {
@@ -36,28 +38,33 @@ pub(crate) fn replan(
     }
     match planned_anew(alloc, given, course)? {
         None => Ok(()),
-        Some(made) => keep(given, course, made),
+        Some(next) => keep(given, course, next),
     }
 }
 
-/// The plan is in force from now on, and noted.
-fn keep(given: &Given<'_>, course: &mut Course<'_>, made: KeptPlan) -> Result<(), AllocError>
+/// The plan is in force from now on, noted and counted.
+fn keep(given: &Given<'_>, course: &mut Course<'_>, next: NextPlan) -> Result<(), AllocError>
     requires fits { Fits given.now.rates given.now.options.keep course.old.jobs
-        course.old.lost.items course.old.rows (Some []) (Some made) }
-    requires first { AreOfFirst made.graph (jobs_in course.old.known) }
+        course.old.lost.items course.old.rows (Some []) (Some next.plan) }
+    requires first { AreOfFirst next.plan.graph (jobs_in course.old.known) }
     ensures past { OnOk result (past_of course.new
-        ≡ with_plan given.now.answers made (past_of course.old)) }
+        ≡ with_plan given.now.answers next.plan (past_of course.old)) }
+    ensures counts { OnOk result (course.new.counts ≡ counted next.brought course.old.counts) }
     ensures known { course.new.known ≡ course.old.known }
     ensures tickets { course.new.tickets.items ≡ course.old.tickets.items }
     ensures folders { course.new.folders ≡ course.old.folders }
 {
+    let NextPlan { plan, brought } = next;
     let note = PlanNote {
         after: given.answers,
-        cost: made.made().cost,
+        cost: plan.made().cost,
     };
     match course.plans.push(note) {
         Ok(()) => {
-            mem::drop(mem::replace(&mut course.planned, Some(made)));
+            // Both counts together are the number of notes, and a list is never longer than an integer says.
+            let _few = course.plans.len();
+            course.counts = counted(brought, course.counts);
+            mem::drop(mem::replace(&mut course.planned, Some(plan)));
             course.touched = Touched::none();
             course.rates = given.rates.copied();
             course.keep = given.options.keep;
@@ -65,7 +72,7 @@ fn keep(given: &Given<'_>, course: &mut Course<'_>, made: KeptPlan) -> Result<()
             Ok(())
         }
         Err(_) => {
-            mem::drop(made);
+            mem::drop(plan);
             Err(AllocError)
         }
     }
@@ -89,9 +96,9 @@ fn planned_anew(
     alloc: Global,
     given: &Given<'_>,
     course: &mut Course<'_>,
-) -> Result<Option<KeptPlan>, AllocError>
+) -> Result<Option<NextPlan>, AllocError>
     ensures made { IfOk result (λ made. MatchOption made (PlansNothing course.old)
-        (IsPlanAt given.now course.old)) }
+        (IsNextAt given.now course.old)) }
     ensures rest { IfOk result (IsLentTo course.old course.new) }
     ensures tickets { course.new.tickets.items ≡ course.old.tickets.items }
     ensures folders { course.new.folders ≡ course.old.folders }
@@ -108,10 +115,10 @@ fn planned_few(
     given: &Given<'_>,
     course: &mut Course<'_>,
     few: Few,
-) -> Result<Option<KeptPlan>, AllocError>
+) -> Result<Option<NextPlan>, AllocError>
     requires { AreFew given.now course.old few }
     ensures made { IfOk result (λ made. MatchOption made (PlansNothing course.old)
-        (IsPlanAt given.now course.old)) }
+        (IsNextAt given.now course.old)) }
     ensures rest { IfOk result (IsLentTo course.old course.new) }
     ensures tickets { course.new.tickets.items ≡ course.old.tickets.items }
     ensures folders { course.new.folders ≡ course.old.folders }
@@ -124,7 +131,10 @@ fn planned_few(
         None => Ok(None),
         Some(known) => match plan_touched(alloc, known, changed, later, &mut course.planned) {
             Ok(None) => planned_whole(alloc, given, course),
-            Ok(Some(made)) => Ok(Some(made)),
+            Ok(Some(plan)) => Ok(Some(NextPlan {
+                plan,
+                brought: true,
+            })),
             Err(error) => if_planned(Err(error)),
         },
     }
@@ -135,9 +145,9 @@ fn planned_whole(
     alloc: Global,
     given: &Given<'_>,
     course: &mut Course<'_>,
-) -> Result<Option<KeptPlan>, AllocError>
+) -> Result<Option<NextPlan>, AllocError>
     ensures made { IfOk result (λ made. MatchOption made (PlansNothing course.old)
-        (IsPlanAt given.now course.old)) }
+        (IsNextAt given.now course.old)) }
     ensures rest { IfOk result (IsLentTo course.old course.new) }
     ensures tickets { course.new.tickets.items ≡ course.old.tickets.items }
     ensures folders { course.new.folders ≡ course.old.folders }
@@ -152,11 +162,11 @@ fn planned_whole(
 }
 
 /// The plan, unless the fault of what is known is told.
-fn if_planned(told: Result<KeptPlan, UnfoldError>) -> Result<Option<KeptPlan>, AllocError>
+fn if_planned(told: Result<NextPlan, UnfoldError>) -> Result<Option<NextPlan>, AllocError>
     ensures { IfOk result (IsToldPlan told) }
 {
     match told {
-        Ok(made) => Ok(Some(made)),
+        Ok(next) => Ok(Some(next)),
         Err(UnfoldError::Refused(fault)) => {
             mem::drop(fault);
             Ok(None)

@@ -7,7 +7,7 @@ ghost use Rattle.run_rules.specs.Blame.{BlamesRightly, Rise, given_tickets};
 ghost use Rattle.run_rules.specs.Reports.{entries_of, reported, Concludes};
 ghost use Rattle.job_graph.specs.Words.{JobPlace};
 ghost use Rattle.run_core.specs.declared.state.Phase.{Phase};
-ghost use Rattle.run_core.specs.Core.{HasNotRunOut, HasPlans, IsLost, MayAsk, MayTake, Begins, StaysLost, Took, GaveUp};
+ghost use Rattle.run_core.specs.Core.{HasCounted, HasNotRunOut, HasPlans, IsLost, MayAsk, MayTake, Begins, StaysLost, Took, GaveUp};
 ghost use Rattle.run_core.specs.Limits.{IsWithinLimits};
 ghost use Rattle.run_core.specs.Machine.{plan_of};
 ghost use Rattle.run_core.specs.inner.Course.{past_of};
@@ -18,6 +18,7 @@ ghost use Rattle.run_core.specs.inner.Turn.{IsEnded};
 ghost use Rattle.workflow_check.specs.Checked.{fault_in};
 
 use crate::anyway::can_go_on;
+use crate::counts::PlanCounts;
 use crate::course::{at_first, reserve_one};
 use crate::measuring::begun;
 use crate::state::{Course, Given, Phase, Turn};
@@ -141,6 +142,14 @@ impl<'a> RunCore<'a> {
                 Some((&made.graph, &made.plan, &made.charges))
             }
         }
+    }
+
+    /// Returns how many plans were brought up to date so far, and how many were made anew: one at each planning point. `plan_on` and
+    /// `plan_touched` of `run_plan` say when a plan is brought up to date.
+    pub fn plan_counts(&self) -> PlanCounts
+        ensures { HasNotRunOut self.now → HasCounted self.now result }
+    {
+        self.course.counts
     }
 
     /// Returns how many jobs are known so far, those that have ended among them.
@@ -393,6 +402,7 @@ fn noted_in(course: Course<'_>) -> Noted
         rates: _,
         keep: _,
         plans,
+        counts: _,
         known,
         of_first: _,
         end,

@@ -1,11 +1,12 @@
 //! Where a run is: what its events have brought about so far, and what it waits for.
 
 ghost use Rattle.std.proofs.Props.{props};
-ghost use Rattle.std.specs.Prelude.{◌≡◌, true};
+ghost use Rattle.std.specs.Prelude.{◌≡◌, ◌+◌, length, true};
 ghost use Rattle.run_core.specs.inner.Fits.{Fits};
 ghost use Rattle.run_core.specs.inner.Known.{known_in};
 ghost use Rattle.run_plan.specs.Touched.{AreOfFirst, graph_in};
 
+use crate::counts::PlanCounts;
 use crate::found_rows::FoundRows;
 use crate::job_states::JobStates;
 use crate::touches::Touched;
@@ -176,6 +177,9 @@ pub(crate) struct Course<'a> {
     ghost fits: { Fits rates keep jobs lost.items rows touched planned } by { Prim.hlevel props },
     /// The cost of each plan, by planning point.
     pub plans: Vec<PlanNote>,
+    /// How these plans came to be.
+    pub counts: PlanCounts,
+    ghost counted: { counts.brought + counts.anew ≡ length plans.items } by { Prim.hlevel props },
     /// The jobs that are known, once all input files are measured.
     pub known: Option<Unfolding<'a>>,
     /// Whether the graph of the plan in force is one of the first of them.

@@ -1,6 +1,6 @@
 -- A graph that is brought up to date, one vertex after the other.
 use Rattle.std.specs.List.{zip}
-use Rattle.std.proofs.Common.{◌≡◌, ◌∙◌, ℕ, suc, ◌+◌, ◌<◌, ◌≤◌, Bool, List, [], ◌∷◌, ◌++◌, Option, Some, length, map, take, get_or, set, sym, refl, ap, ap₂, ⊎_elim, arith, get_or-set_other, get_or-set_same}
+use Rattle.std.proofs.Common.{◌≡◌, ◌≢◌, ◌∙◌, inl, inr, subst, ℕ, suc, ◌+◌, ◌<◌, ◌≤◌, Bool, List, [], ◌∷◌, ◌++◌, Option, Some, length, map, take, get_or, set, sym, refl, ap, ap₂, ⊎_elim, arith, get_or-set_other, get_or-set_same}
 use Rattle.std.proofs.Math.Seq.{take-suc}
 use Rattle.std.proofs.lemmas.Bool.{cases_lt}
 use Rattle.std.proofs.lemmas.List.{get_or-map, get_or-take, get_or_default, take_all, length-map, length-take-le, same_lists}
@@ -16,6 +16,7 @@ use Rattle.plan_checker.specs.Graph.{no_vertex, vertex}
 use Rattle.plan_checker.specs.declared.vertex.Vertex.{Vertex}
 use Rattle.plan_checker.proofs.SumsBelow.{below_or_last}
 use Rattle.plan_keeper.specs.Kept.{freed}
+use Rattle.run_plan.specs.Brought.{AreStaying, StaysOrIsFreed}
 use Rattle.run_plan.specs.inner.Again.{AreFirst, IsBrought, vertex_of, vertices_of}
 
 -- one that is free now
@@ -82,6 +83,51 @@ all_brought graph all count n brought done within =
     (λ k d (hk : k < length graph).
     let hn : k < n = omega arith in
     get_or_default graph k d no_vertex hk ∙ brought.below k hn ∙ sym (get_or_default all k d no_vertex (omega arith)) ∙ sym (get_or-take (length graph) all k d hk))
+
+-- the first n vertices stay or are freed, and the others are as they were
+pub record AreStayingBelow (initial graph all : List Vertex) (n : ℕ) : Type 0 where
+  pub each : (i : ℕ) → i < n → StaysOrIsFreed (vertex initial i) (vertex all i)
+  pub left : (i : ℕ) → n ≤ i → vertex graph i ≡ vertex initial i
+
+pub none_freed : (initial all : List Vertex) (n : ℕ) → ((i : ℕ) → 0 ≤ i → i < n → vertex initial i ≡ vertex all i) → AreStayingBelow initial initial all n
+none_freed initial all n same = record { each = λ i hi. inl (sym (same i (omega arith) hi)); left = λ i past. refl }
+
+-- one more that is freed, and those from there on that stay
+pub staying_more : (initial graph new all : List Vertex) (n next : ℕ) (parents : List ℕ) (costs : Costs) (needed : Bool) → AreStayingBelow initial graph all n →
+    IsBrought graph new n (vertex_of parents costs needed) → vertex_of parents costs needed ≡ vertex all n → costs.load ≡ Some 0 → (vertex graph n).parents ≡ parents →
+    ((i : ℕ) → n + 1 ≤ i → i < next → vertex new i ≡ vertex all i) → n + 1 ≤ next → AreStayingBelow initial new all next
+staying_more initial graph new all n next parents costs needed before brought is free held same past =
+    let at : StaysOrIsFreed (vertex initial n) (vertex all n) =
+    inr (
+      ap (λ (v : Vertex). v.load) (sym is) ∙ free,
+      ap (λ (v : Vertex). v.parents) (sym is) ∙ sym held ∙ ap (λ (v : Vertex). v.parents) (before.left n (omega arith)),
+    ) in
+    record {
+      each = λ i hi.
+          ⊎_elim
+          (λ (lt : i < n + 1).
+          ⊎_elim
+          (λ (below : i < n). before.each i below)
+          (λ (e : i ≡ n). subst (λ (m : ℕ). StaysOrIsFreed (vertex initial m) (vertex all m)) (sym e) at)
+          (below_or_last n i (omega (arith, lt))))
+          (λ (ge : n + 1 ≤ i). inl (sym (same i ge hi) ∙ brought.others i (λ e. absurd (omega (arith, e, ge))) ∙ before.left i (omega (arith, ge))))
+          (cases_lt i (n + 1));
+      left = λ i ge. brought.others i (λ e. absurd (omega (arith, e, ge, past))) ∙ before.left i (omega (arith, ge, past));
+    }
+
+-- one that has changed and isn't freed
+pub not_staying : (initial graph all : List Vertex) (n : ℕ) (parents : List ℕ) (costs : Costs) (needed : Bool) → AreStayingBelow initial graph all n → vertex graph n ≢ vertex all n →
+    vertex_of parents costs needed ≡ vertex all n → (((costs.load ≡ Some 0) × ((vertex graph n).parents ≡ parents)) → ⊥) → n < length initial → AreStaying initial all → ⊥
+not_staying initial graph all n parents costs needed below other is never there staying =
+    let left : vertex graph n ≡ vertex initial n = below.left n (omega arith) in
+    ⊎_elim
+    (λ (same : vertex all n ≡ vertex initial n). other (left ∙ sym same))
+    (λ freed.
+    never (
+      ap (λ (v : Vertex). v.load) is ∙ freed.0,
+      ap (λ (v : Vertex). v.parents) left ∙ sym freed.1 ∙ ap (λ (v : Vertex). v.parents) (sym is),
+    ))
+    (staying.each n there)
 
 -- the vertex of a number, by its parts
 module _ (known : List KnownJob) (costs : List Costs) (needed : List Bool) (as_many : length costs ≡ length known) (flags : length needed ≡ length known) where

@@ -1,7 +1,9 @@
 -- A graph that is brought up to date where few jobs were touched.
-use Rattle.std.proofs.Common.{◌≡◌, ◌≢◌, ◌∙◌, ℕ, zero, suc, ◌+◌, ◌<◌, ◌≤◌, Bool, false, List, [], ◌∷◌, ◌++◌, length, map, take, get_or, set, sym, refl, ap, ⊎_elim, arith}
+use Rattle.std.specs.Prelude.{◌↔◌, drop}
+use Rattle.std.proofs.Common.{drop-cons, ◌≡◌, ◌≢◌, ◌∙◌, ◌⊎◌, inl, inr, subst, ℕ, zero, suc, ◌+◌, ◌<◌, ◌≤◌, Bool, false, List, [], ◌∷◌, ◌++◌, length, map, take, get_or, set, sym, refl, ap, ⊎_elim, arith}
 use Rattle.std.proofs.Math.Seq.{take-suc}
-use Rattle.std.proofs.lemmas.Bool.{cases_eq}
+use Rattle.std.proofs.Math.ListN.{get_or-eq_default}
+use Rattle.std.proofs.lemmas.Bool.{cases_eq, cases_lt}
 use Rattle.std.proofs.lemmas.List.{get_or-append_right, get_or_append_left, get_or-map, get_or-set_other, get_or-set_same, get_or-take, get_or_default, length-append, length-map, length-set, length-take-le, map-set, same_lists, set-get_or, set_past, take_all, take_more}
 use Rattle.job_graph.specs.Jobs.{Job}
 use Rattle.job_graph.specs.KnownJobs.{known_of}
@@ -12,11 +14,13 @@ use Rattle.job_graph.specs.declared.growth.KnownJob.{KnownJob}
 use Rattle.plan_checker.specs.Graph.{no_vertex, vertex}
 use Rattle.plan_checker.specs.declared.vertex.Vertex.{Vertex}
 use Rattle.plan_checker.proofs.SumsBelow.{below_or_last}
+use Rattle.plan_keeper.specs.Free.{IsFree}
 use Rattle.plan_keeper.specs.Kept.{IsKeptApart}
 use Rattle.plan_keeper.specs.declared.planned.Planned.{Planned}
+use Rattle.run_plan.specs.Brought.{AreFree, AreFreeing, AreStaying, StaysOrIsFreed}
 use Rattle.run_plan.specs.inner.Again.{IsBrought, vertex_of, vertices_of}
 use Rattle.run_plan.specs.Touched.{AreOfFirst, costs_in, patched}
-use Rattle.run_plan.specs.inner.Flagged.{AreFlaggedBelow, HaveParents, parents_at}
+use Rattle.run_plan.specs.inner.Flagged.{AreFlaggedBelow, HaveParents, IsFlaggedOrFree, parents_at}
 use Rattle.run_plan.proofs.Brought.{vertices_count}
 
 -- one more that has changed
@@ -159,3 +163,129 @@ module _ (known : List KnownJob) (graph : List Vertex) (later : List Costs) (nee
   all_later now k first past =
       let count : length (vertices_of known all_costs needed) ≡ length known = vertices_count known all_costs needed all_many flags in
       first ∙ take_all (length graph + k) (vertices_of known all_costs needed) (omega (arith, past, each, count))
+
+-- Whether the changes free their jobs
+
+-- past the end nothing is there
+pub nothing_there : (graph : List Vertex) (number : ℕ) (costs : Costs) → length graph ≤ number → get_or (map costs_in graph) number costs ≡ costs
+nothing_there graph number costs past = get_or-eq_default (map costs_in graph) costs (omega (arith, past, length-map graph costs_in))
+
+pub costs_there : (graph : List Vertex) (number : ℕ) (costs : Costs) → number < length graph → get_or (map costs_in graph) number costs ≡ costs_in (vertex graph number)
+costs_there graph number costs there = get_or-map costs_in graph number no_vertex costs there
+
+-- costs that are there already change nothing
+pub costs_kept : (graph : List Vertex) (number : ℕ) (costs : Costs) → get_or (map costs_in graph) number costs ≡ costs → map costs_in graph ≡ set (map costs_in graph) number costs
+costs_kept graph number costs same =
+    sym (set-get_or (map costs_in graph) number costs) ∙ ap (λ (c : Costs). set (map costs_in graph) number c) same
+
+-- the first of some changes
+pub freeing_more : (first costs next : List Costs) (changed rest left : List (ℕ × Costs)) (one : ℕ × Costs) → (AreFreeing first changed ↔ AreFreeing costs rest) → rest ≡ one ∷ left →
+    (AreFree one.1 ⊎ (get_or costs one.0 one.1 ≡ one.1)) → next ≡ set costs one.0 one.1 → AreFreeing first changed ↔ AreFreeing next left
+freeing_more first costs next changed rest left one it is takes now = (
+  λ all. subst (λ (list : List Costs). AreFreeing list left) (sym now) (subst (AreFreeing costs) is (it.0 all)).1,
+  λ more. it.1 (subst (AreFreeing costs) (sym is) (takes, subst (λ (list : List Costs). AreFreeing list left) now more)),
+)
+
+pub not_freeing : (first costs : List Costs) (changed rest left : List (ℕ × Costs)) (one : ℕ × Costs) → (AreFreeing first changed ↔ AreFreeing costs rest) → rest ≡ one ∷ left →
+    ((AreFree one.1 ⊎ (get_or costs one.0 one.1 ≡ one.1)) → ⊥) → AreFreeing first changed → ⊥
+not_freeing first costs changed rest left one it is never all = never (subst (AreFreeing costs) is (it.0 all)).0
+
+-- the changes from a number on
+pub drop_one : (changed : List (ℕ × Costs)) (i : ℕ) (one : ℕ × Costs) → i < length changed → one ≡ get_or changed i one → drop i changed ≡ one ∷ drop (i + 1) changed
+drop_one changed i one within is =
+    let next : suc i ≡ i + 1 = omega arith in
+    drop-cons changed i one within ∙ ap (λ (x : ℕ × Costs). x ∷ drop (suc i) changed) (sym is) ∙ ap (λ (m : ℕ). one ∷ drop m changed) next
+
+drop_past : (changed : List (ℕ × Costs)) (i : ℕ) → length changed ≤ i → drop i changed ≡ []
+drop_past [] zero past = refl
+drop_past [] (suc i) past = refl
+drop_past (one ∷ changed) zero past = absurd (omega (arith, past))
+drop_past (one ∷ changed) (suc i) past = drop_past changed i (omega (arith, past))
+
+pub freeing_done : (first costs : List Costs) (changed : List (ℕ × Costs)) (i : ℕ) → (AreFreeing first changed ↔ AreFreeing costs (drop i changed)) → length changed ≤ i → AreFreeing first changed
+freeing_done first costs changed i it past = it.1 (subst (AreFreeing costs) (sym (drop_past changed i past)) tt)
+
+-- a vertex that stays or is free, after one more step
+pub freed_on : (old mid new : Vertex) → (mid ≡ old) ⊎ IsFree mid → (new ≡ mid) ⊎ IsFree new → (new ≡ old) ⊎ IsFree new
+freed_on old mid new before now =
+    ⊎_elim
+    (λ (same : new ≡ mid). ⊎_elim (λ (stays : mid ≡ old). inl (same ∙ stays)) (λ (free : IsFree mid). inr (subst IsFree (sym same) free)) before)
+    (λ (free : IsFree new). inr free)
+    now
+
+-- those that a brought vertex leaves
+pub others_left : (old new : List Vertex) (number : ℕ) (job : Vertex) → IsBrought old new number job → IsFree job → (n : ℕ) → (vertex new n ≡ vertex old n) ⊎ IsFree (vertex new n)
+others_left old new number job brought free n =
+    ⊎_elim
+    (λ (e : n ≡ number). inr (subst IsFree (sym (ap (vertex new) e ∙ brought.there)) free))
+    (λ (e : n ≢ number). inl (brought.others n e))
+    (cases_eq n number)
+
+-- the first n vertices are flagged as they should be or free, and the others are as they were
+pub record AreFlagsBelow (needed : List Bool) (initial graph : List Vertex) (n : ℕ) : Type 0 where
+  pub each : (i : ℕ) → i < n → IsFlaggedOrFree needed initial i
+  pub left : (i : ℕ) → n ≤ i → vertex graph i ≡ vertex initial i
+
+pub flags_more : (needed : List Bool) (initial graph new : List Vertex) (n : ℕ) (job : Vertex) → AreFlagsBelow needed initial graph n → IsBrought graph new n job → IsFlaggedOrFree needed graph n →
+    AreFlagsBelow needed initial new (n + 1)
+flags_more needed initial graph new n job before brought now = record {
+  each = λ i hi.
+      ⊎_elim
+      (λ (lt : i < n). before.each i lt)
+      (λ (e : i ≡ n). subst (IsFlaggedOrFree needed initial) (sym e) (flag_before needed initial graph n before now))
+      (below_or_last n i (omega (arith, hi)));
+  left = λ i ge. brought.others i (λ e. absurd (omega (arith, e, ge))) ∙ before.left i (omega (arith, ge));
+}
+  where
+    flag_before : (needed : List Bool) (initial graph : List Vertex) (n : ℕ) → AreFlagsBelow needed initial graph n → IsFlaggedOrFree needed graph n → IsFlaggedOrFree needed initial n
+    flag_before needed initial graph n below flagged =
+        subst (λ (v : Vertex). (v.needed ≡ get_or needed n false) ⊎ IsFree v) (below.left n (omega arith)) flagged
+
+pub not_flagged : (needed : List Bool) (initial graph : List Vertex) (n : ℕ) → AreFlagsBelow needed initial graph n → (IsFlaggedOrFree needed graph n → ⊥) → IsFlaggedOrFree needed initial n → ⊥
+not_flagged needed initial graph n below never flagged =
+    never (subst (λ (v : Vertex). (v.needed ≡ get_or needed n false) ⊎ IsFree v) (sym (below.left n (omega arith))) flagged)
+
+-- the vertices of known jobs, by what has become of the graph before: its costs are brought up to date, and a flag is brought up to date where it can be
+module _ (known : List KnownJob) (needed : List Bool) (old mid : List Vertex) (later : List Costs) (each : length old + length later ≡ length known) (flags : length needed ≡ length known)
+    (count : length mid ≡ length old) (parents : HaveParents known old) (its_parents : HaveParents known mid) (freed : (n : ℕ) → (vertex mid n ≡ vertex old n) ⊎ IsFree (vertex mid n)) where
+  abbrev all_after : List Vertex
+  all_after = vertices_of known (map costs_in mid ++ later) needed
+
+  after_at : (n : ℕ) → n < length old → vertex all_after n ≡ vertex_of (parents_at known n) (costs_in (vertex mid n)) (get_or needed n false)
+  after_at n there =
+      let costs : List Costs = map costs_in mid ++ later in
+      let here : n < length (map costs_in mid) = omega (arith, there, count, length-map mid costs_in) in
+      let many : length costs ≡ length known = omega (arith, length-append (map costs_in mid) later, length-map mid costs_in, count, each) in
+      at_parts known costs needed n (costs_in no_vertex) many flags (omega (arith, there, each))
+      ∙ ap (λ (c : Costs). vertex_of (parents_at known n) c (get_or needed n false))
+      (get_or_append_left (map costs_in mid) later (costs_in no_vertex) n here ∙ get_or-map costs_in mid n no_vertex (costs_in no_vertex) (omega (arith, there, count)))
+
+  freed_after : (n : ℕ) → n < length old → IsFree (vertex mid n) → StaysOrIsFreed (vertex old n) (vertex all_after n)
+  freed_after n there free = inr (
+    ap (λ (v : Vertex). v.load) (after_at n there) ∙ free,
+    ap (λ (v : Vertex). v.parents) (after_at n there) ∙ sym (parents n there),
+  )
+
+  stays_after : (n : ℕ) → n < length old → (vertex mid n).needed ≡ get_or needed n false → StaysOrIsFreed (vertex old n) (vertex all_after n)
+  stays_after n there flag =
+      let mid_is : vertex all_after n ≡ vertex mid n =
+      after_at n there ∙ ap (λ (ps : List ℕ). vertex_of ps (costs_in (vertex mid n)) (get_or needed n false)) (sym (its_parents n (omega (arith, there, count))))
+      ∙ ap (λ (b : Bool). vertex_of (vertex mid n).parents (costs_in (vertex mid n)) b) (sym flag) in
+      ⊎_elim (λ (same : vertex mid n ≡ vertex old n). inl (mid_is ∙ same)) (λ (free : IsFree (vertex mid n)). freed_after n there free) (freed n)
+
+  pub staying_by_flags : ((n : ℕ) → n < length old → IsFlaggedOrFree needed mid n) → AreStaying old (vertices_of known (map costs_in mid ++ later) needed)
+  staying_by_flags flagged = record {
+    longer = omega (arith, each, vertices_count known (map costs_in mid ++ later) needed (omega (arith, length-append (map costs_in mid) later, length-map mid costs_in, count, each)) flags);
+    each = λ n there. ⊎_elim (λ flag. stays_after n there flag) (λ free. freed_after n there free) (flagged n there);
+  }
+
+  pub flags_by_staying : AreStaying old (vertices_of known (map costs_in mid ++ later) needed) → (n : ℕ) → n < length old → IsFlaggedOrFree needed mid n
+  flags_by_staying staying n there =
+      ⊎_elim
+      (λ (same : vertex all_after n ≡ vertex old n).
+      ⊎_elim
+      (λ (stays : vertex mid n ≡ vertex old n). inl (ap (λ (v : Vertex). v.needed) (stays ∙ sym same ∙ after_at n there)))
+      (λ (free : IsFree (vertex mid n)). inr free)
+      (freed n))
+      (λ now. inr (ap (λ (v : Vertex). v.load) (sym (after_at n there)) ∙ now.0))
+      (staying.each n there)

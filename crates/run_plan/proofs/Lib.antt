@@ -1,3 +1,4 @@
+mod Apart
 mod Brought
 mod FewBrought
 pub mod First

@@ -1,3 +1,4 @@
+pub mod Brought
 pub mod Costs
 pub mod Planned
 pub mod Touched

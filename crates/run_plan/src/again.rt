@@ -1,34 +1,38 @@
 //! The plan of the jobs that are known, by the one that was made before.
-ghost use Rattle.std.specs.Prelude.{◌≡◌, ◌≢◌, ◌≤◌, ℕ, All, ◌++◌, ◌∷◌, ◌<◌, [], IfErr, IfOk, IfSome, IsTrue, None, OnOk, length};
+ghost use Rattle.std.specs.Prelude.{◌≡◌, ◌≢◌, ◌≤◌, ◌↔◌, ◌⊎◌, ℕ, All, ◌++◌, ◌∷◌, ◌<◌, [], IfErr, IfOk, IfSome, IsSome, IsTrue, None, OnOk, Some, false, length};
 ghost use Rattle.job_graph.specs.PresentJobGraph.{AreWithin, needed_among, present_job_graph};
 ghost use Rattle.job_graph.specs.Unfolding.{Blames};
 ghost use Rattle.job_graph.specs.declared.fault.UnfoldError.{UnfoldError};
 ghost use Rattle.plan_checker.specs.Graph.{vertex};
 ghost use Rattle.plan_keeper.specs.Kept.{IsKeptApart};
+ghost use Rattle.run_plan.specs.Brought.{AreStaying, CanBeBrought, IsGraphApart, StaysApart};
 ghost use Rattle.run_plan.specs.inner.Again.{AreFirst, IsBrought, vertex_of, vertices_of};
 ghost use Rattle.run_plan.specs.Planned.{IsPlanOf};
 
-use crate::kept::KeptPlan;
+use crate::kept::{KeptPlan, NextPlan};
 use crate::planned::plan_for;
 use job_graph::{Costs, KnownJob, UnfoldError, Unfolding};
 use plain_data::Items;
-use plan_checker::{GraphError, Vertex};
+use plan_checker::{Charges, GraphError, Vertex};
 use plan_keeper::{Planned, add_vertex, free_vertex, kept_is_planned};
 use std::alloc::{AllocError, Global};
 use std::mem;
 
-/// Plans the present job graph of the jobs that are known, each with its costs, and takes the last plan away. Where the vertices
-/// of its graph stand apart, only those are looked at closely that have changed since. After a refused `learn` it answers that
-/// refusal, and the last plan stays.
+/// Plans the present job graph of the jobs that are known, each with its costs, and takes the last plan away. That is brought up to
+/// date where it can be, and then only the vertices are looked at closely that have changed since; else the plan is made anew. After a
+/// refused `learn` it answers that refusal, and the last plan stays.
 pub fn plan_on(
     alloc: Global,
     known: &mut Unfolding<'_>,
     costs: &[Costs],
     last: &mut Option<KeptPlan>,
-) -> Result<KeptPlan, UnfoldError>
+) -> Result<NextPlan, UnfoldError>
     requires each { length costs.now ≡ length known.old.known }
     requires within { All AreWithin costs.now }
-    ensures ok { IfOk result (IsPlanOf
+    ensures ok { IfOk result (λ next. IsPlanOf
+        (present_job_graph known.old.learned known.old.known known.old.outs costs.now)
+        next.plan) }
+    ensures brought { IfOk result (λ next. IsTrue next.brought ↔ CanBeBrought last.old
         (present_job_graph known.old.learned known.old.known known.old.outs costs.now)) }
     ensures taken { OnOk result (last.new ≡ None) }
     ensures err { IfErr result (Blames known.old.refused) }
@@ -38,38 +42,64 @@ pub fn plan_on(
 {
     let needed = known.needed()?;
     match mem::replace(last, None) {
-        None => plan_for(alloc, known, costs, None),
+        None => plan_anew(alloc, known, costs, None),
         Some(kept) => match kept.into_apart() {
-            Err(made) => plan_for(alloc, known, costs, Some(&made.charges)),
+            Err(made) => plan_anew(alloc, known, costs, Some(&made.charges)),
             Ok(made) => plan_by(alloc, known, costs, needed.as_slice(), made),
         },
     }
 }
 
-/// Brings the plan before up to date, or plans from nothing.
+/// Makes the plan anew, from the charges of the last one where there are some.
+fn plan_anew(
+    alloc: Global,
+    known: &Unfolding<'_>,
+    costs: &[Costs],
+    last: Option<&Charges>,
+) -> Result<NextPlan, UnfoldError>
+    requires each { length costs.now ≡ length known.now.known }
+    requires within { All AreWithin costs.now }
+    ensures ok { IfOk result (λ next. IsPlanOf
+        (present_job_graph known.now.learned known.now.known known.now.outs costs.now) next.plan) }
+    ensures anew { IfOk result (λ next. next.brought ≡ false) }
+    ensures err { IfErr result (Blames known.now.refused) }
+{
+    let plan = plan_for(alloc, known, costs, last)?;
+    Ok(NextPlan {
+        plan,
+        brought: false,
+    })
+}
+
+/// Brings the plan before up to date, or makes it anew.
 fn plan_by(
     alloc: Global,
     known: &Unfolding<'_>,
     costs: &[Costs],
     needed: &[bool],
     made: Planned,
-) -> Result<KeptPlan, UnfoldError>
+) -> Result<NextPlan, UnfoldError>
     requires kept { IsKeptApart made }
     requires each { length costs.now ≡ length known.now.known }
     requires needed { needed.now ≡ needed_among known.now.learned known.now.outs known.now.known }
     requires within { All AreWithin costs.now }
-    ensures ok { IfOk result (IsPlanOf
+    ensures ok { IfOk result (λ next. IsPlanOf
+        (present_job_graph known.now.learned known.now.known known.now.outs costs.now) next.plan) }
+    ensures brought { IfOk result (λ next. IsTrue next.brought ↔ StaysApart made.graph
         (present_job_graph known.now.learned known.now.known known.now.outs costs.now)) }
     ensures err { IfErr result (Blames known.now.refused) }
 {
     kept_is_planned();
     match brought(alloc, made, known.known(), costs, needed)? {
-        Some(made) => Ok(KeptPlan::apart(made)),
-        None => plan_for(alloc, known, costs, None),
+        Some(made) => Ok(NextPlan {
+            plan: KeptPlan::apart(made),
+            brought: true,
+        }),
+        None => plan_anew(alloc, known, costs, None),
     }
 }
 
-/// The plan before, brought up to date; none where the vertices don't stand apart any more.
+/// The plan before, brought up to date; none where that can't be.
 fn brought(
     alloc: Global,
     made: Planned,
@@ -81,8 +111,10 @@ fn brought(
     requires costs { length costs.now ≡ length known.now }
     requires needed { length needed.now ≡ length known.now }
     requires within { All AreWithin costs.now }
-    ensures { IfOk result (λ found. IfSome found (λ made. IsKeptApart made
+    ensures made { IfOk result (λ found. IfSome found (λ made. IsKeptApart made
         × (made.graph ≡ vertices_of known.now costs.now needed.now))) }
+    ensures found { IfOk result (λ found. IsSome found
+        ↔ StaysApart made.graph (vertices_of known.now costs.now needed.now)) }
 {
     let mut made = made;
     if !bring_old(alloc, &mut made, known, costs, needed) {
@@ -105,6 +137,8 @@ fn bring_old(
     requires within { All AreWithin costs.now }
     ensures kept { IsKeptApart made.new }
     ensures brought { IsTrue result → AreFirst made.new.graph
+        (vertices_of known.now costs.now needed.now) }
+    ensures exact { IsTrue result ↔ AreStaying made.old.graph
         (vertices_of known.now costs.now needed.now) }
 {
     let count = made.graph.vertices().len();
@@ -137,6 +171,8 @@ fn first_changed(
     ensures within { (from ≤ result) × (result ≤ length vertices.now) }
     ensures same { (i : ℕ) → from ≤ i → i < result → vertex vertices.now i
         ≡ vertex (vertices_of known.now costs.now needed.now) i }
+    ensures other { result < length vertices.now → vertex vertices.now result
+        ≢ vertex (vertices_of known.now costs.now needed.now) result }
 {
     for number in from..vertices.len() {
         let parents = known[number].parents.as_slice();
@@ -149,7 +185,7 @@ fn first_changed(
 
 /// Whether a vertex has these parents and costs, and is needed or not as this says.
 fn is_as(vertex: &Vertex, parents: &[usize], costs: Costs, needed: bool) -> bool
-    ensures { IsTrue result → vertex.now ≡ vertex_of parents.now costs needed }
+    ensures { IsTrue result ↔ (vertex.now ≡ vertex_of parents.now costs needed) }
 {
     has(vertex, costs, needed) && are_same(vertex.parents.as_slice(), parents)
 }
@@ -170,6 +206,8 @@ pub(crate) fn bring_one(
     ensures brought { IsTrue result → IsBrought made.old.graph made.new.graph number
         (vertex_of parents.now costs needed) }
     ensures count { length made.new.graph ≡ length made.old.graph }
+    ensures exact { IsTrue result ↔ ((costs.load ≡ Some 0)
+        × ((vertex made.old.graph number).parents ≡ parents.now)) }
 {
     let vertex = &made.graph.vertices()[number];
     if costs.load != Some(0) || !are_same(vertex.parents.as_slice(), parents) {
@@ -181,7 +219,7 @@ pub(crate) fn bring_one(
 
 /// Whether these are the same numbers. Most jobs have no parents, and need no comparison.
 fn are_same(some: &[usize], others: &[usize]) -> bool
-    ensures { IsTrue result → some.now ≡ others.now }
+    ensures { IsTrue result ↔ (some.now ≡ others.now) }
 {
     if some.is_empty() {
         return others.is_empty();
@@ -191,7 +229,7 @@ fn are_same(some: &[usize], others: &[usize]) -> bool
 
 /// Whether a vertex has these costs, and is needed or not as this says.
 fn has(vertex: &Vertex, costs: Costs, needed: bool) -> bool
-    ensures { IsTrue result → vertex.now ≡ vertex_of vertex.now.parents costs needed }
+    ensures { IsTrue result ↔ (vertex.now ≡ vertex_of vertex.now.parents costs needed) }
 {
     vertex.needed == needed && vertex.compute == costs.compute && vertex.load == costs.load
 }
@@ -208,8 +246,10 @@ fn add_new(
     requires first { AreFirst made.graph (vertices_of known.now costs.now needed.now) }
     requires costs { length costs.now ≡ length known.now }
     requires needed { length needed.now ≡ length known.now }
-    ensures { IfOk result (λ found. IfSome found (λ made. IsKeptApart made
+    ensures made { IfOk result (λ found. IfSome found (λ made. IsKeptApart made
         × (made.graph ≡ vertices_of known.now costs.now needed.now))) }
+    ensures found { IfOk result (λ found. IsSome found
+        ↔ IsGraphApart (vertices_of known.now costs.now needed.now)) }
 {
     let mut made = made;
     for number in made.graph.vertices().len()..known.len() {
@@ -240,15 +280,17 @@ fn new_vertex(
     })
 }
 
-/// Adds a vertex; none where it doesn't stand apart.
+/// Adds a vertex; none where it doesn't stand apart, or doesn't fit.
 pub(crate) fn added(
     alloc: Global,
     made: Planned,
     vertex: Vertex,
 ) -> Result<Option<Planned>, AllocError>
     requires { IsKeptApart made }
-    ensures { IfOk result (λ found. IfSome found (λ more. IsKeptApart more
+    ensures made { IfOk result (λ found. IfSome found (λ more. IsKeptApart more
         × (more.graph ≡ made.graph ++ vertex ∷ []))) }
+    ensures found { IfOk result (λ found. IsSome found
+        ↔ IsGraphApart (made.graph ++ vertex ∷ [])) }
 {
     match add_vertex(alloc, made, vertex) {
         Ok(found) => Ok(found),

@@ -1,14 +1,16 @@
 //! The plan of the jobs that are known, where few were touched since the last one.
-ghost use Rattle.std.specs.Prelude.{◌≡◌, ◌≢◌, ◌≤◌, ◌+◌, ◌-◌, ◌<◌, ◌++◌, IfErr, IfOk, IfSome, IsTrue, None, OnOk, false, length, map, slice_index_or, slice_set};
+ghost use Rattle.std.specs.Prelude.{◌≡◌, ◌≢◌, ◌≤◌, ◌↔◌, ◌⊎◌, ℕ, ◌+◌, ◌-◌, ◌<◌, ◌++◌, IfErr, IfOk, IfSome, IsSome, IsTrue, MatchOption, None, OnOk, Some, false, length, map, slice_index_or, slice_set};
 ghost use Rattle.job_graph.specs.PresentJobGraph.{AreWithin, needed_among, present_job_graph};
 ghost use Rattle.job_graph.specs.Unfolding.{Blames};
 ghost use Rattle.job_graph.specs.declared.fault.UnfoldError.{UnfoldError};
 ghost use Rattle.plan_checker.specs.Graph.{vertex};
+ghost use Rattle.plan_keeper.specs.Free.{IsFree};
 ghost use Rattle.plan_keeper.specs.Kept.{IsKeptApart};
+ghost use Rattle.run_plan.specs.Brought.{AreFree, AreFreeing, CanBeBrought, IsGraphApart, StaysApart};
 ghost use Rattle.run_plan.specs.inner.Again.{IsBrought, vertex_of, vertices_of};
 ghost use Rattle.run_plan.specs.Planned.{IsPlanOf};
 ghost use Rattle.run_plan.specs.Touched.{AreOfFirst, costs_after, costs_in, graph_in, patched};
-ghost use Rattle.run_plan.specs.inner.Flagged.{AreFlaggedBelow, HaveParents, parents_at};
+ghost use Rattle.run_plan.specs.inner.Flagged.{AreFlaggedBelow, HaveParents, IsFlaggedOrFree, parents_at};
 
 use crate::again::{added, bring_one};
 use crate::kept::KeptPlan;
@@ -21,8 +23,8 @@ use std::mem;
 
 /// Plans the present job graph of the jobs that are known by the last plan, and takes that away. Its graph must be one of the first
 /// of these jobs. They cost what they do there, but for these that have changed, each with its number; the later jobs have these costs.
-/// Returns no plan where the last one can't be brought up to date. After a refused `learn` it answers that refusal, and the last
-/// plan stays.
+/// Returns the last plan, brought up to date, where it can be; else no plan, and then `plan_on` makes it anew. After a refused `learn`
+/// it answers that refusal, and the last plan stays.
 pub fn plan_touched(
     alloc: Global,
     known: &mut Unfolding<'_>,
@@ -34,6 +36,10 @@ pub fn plan_touched(
     requires first { AreOfFirst (graph_in last.old) known.old.known }
     ensures ok { IfOk result (λ found. IfSome found (IsPlanOf (present_job_graph known.old.learned
         known.old.known known.old.outs
+        (costs_after (graph_in last.old) changed.now later.now)))) }
+    ensures brought { IfOk result (λ found. IsSome found
+        ↔ (AreFreeing (map costs_in (graph_in last.old)) changed.now
+        × CanBeBrought last.old (present_job_graph known.old.learned known.old.known known.old.outs
         (costs_after (graph_in last.old) changed.now later.now)))) }
     ensures taken { OnOk result (last.new ≡ None) }
     ensures goes_on { OnOk result (known.old.refused ≡ None) }
@@ -54,7 +60,9 @@ pub fn plan_touched(
 
 /// The plan, if there is one that can be brought up to date.
 fn apart_of(last: Option<KeptPlan>) -> Option<Planned>
-    ensures { IfSome result (λ made. IsKeptApart made × (made.graph ≡ graph_in last)) }
+    ensures kept { IfSome result (λ made. IsKeptApart made × (made.graph ≡ graph_in last)) }
+    ensures exact { MatchOption result ((graph : _) → ¬ CanBeBrought last graph)
+        (λ made. (graph : _) → CanBeBrought last graph ↔ StaysApart made.graph graph) }
 {
     match last {
         None => None,
@@ -81,7 +89,11 @@ fn plan_few(
     requires each { length made.graph + length later.now ≡ length known.now.known }
     requires first { AreOfFirst made.graph known.now.known }
     requires needed { needed.now ≡ needed_among known.now.learned known.now.outs known.now.known }
-    ensures { IfOk result (λ found. IfSome found (IsPlanOf (present_job_graph known.now.learned
+    ensures ok { IfOk result (λ found. IfSome found (IsPlanOf (present_job_graph known.now.learned
+        known.now.known known.now.outs (costs_after made.graph changed.now later.now)))) }
+    ensures brought { IfOk result (λ found. IsSome found
+        ↔ (AreFreeing (map costs_in made.graph) changed.now
+        × StaysApart made.graph (present_job_graph known.now.learned
         known.now.known known.now.outs (costs_after made.graph changed.now later.now)))) }
 {
     kept_is_planned();
@@ -91,7 +103,7 @@ fn plan_few(
     }
 }
 
-/// The plan before, brought up to date; none where the vertices don't stand apart any more.
+/// The plan before, brought up to date; none where that can't be.
 fn brought(
     alloc: Global,
     made: Planned,
@@ -104,9 +116,12 @@ fn brought(
     requires each { length made.graph + length later.now ≡ length known.now }
     requires parents { HaveParents known.now made.graph }
     requires needed { length needed.now ≡ length known.now }
-    ensures { IfOk result (λ found. IfSome found (λ more. IsKeptApart more
+    ensures made { IfOk result (λ found. IfSome found (λ more. IsKeptApart more
         × (more.graph ≡ vertices_of known.now (costs_after made.graph changed.now later.now)
         needed.now))) }
+    ensures found { IfOk result (λ found. IsSome found
+        ↔ (AreFreeing (map costs_in made.graph) changed.now × StaysApart made.graph
+        (vertices_of known.now (costs_after made.graph changed.now later.now) needed.now))) }
 {
     let mut made = made;
     if !bring_changed(alloc, &mut made, known, changed, needed) {
@@ -135,6 +150,9 @@ fn bring_changed(
     ensures parents { IsTrue result → HaveParents known.now made.new.graph }
     ensures costs { IsTrue result → map costs_in made.new.graph
         ≡ patched (map costs_in made.old.graph) changed.now }
+    ensures exact { IsTrue result ↔ AreFreeing (map costs_in made.old.graph) changed.now }
+    ensures freed { IsTrue result → (n : ℕ) → (vertex made.new.graph n
+        ≡ vertex made.old.graph n) ⊎ IsFree (vertex made.new.graph n) }
 {
     for one in changed {
         if !bring_costs(alloc, made, known, one.0, one.1, needed) {
@@ -145,7 +163,7 @@ fn bring_changed(
 }
 
 /// Brings the costs of a vertex up to date, if there is one of this number. Returns whether they are.
-#[tactic(auto, using(crate::proofs::FewBrought::costs_past))]
+#[tactic(auto, using(crate::proofs::FewBrought::costs_past, crate::proofs::FewBrought::nothing_there, crate::proofs::FewBrought::costs_kept))]
 fn bring_costs(
     alloc: Global,
     made: &mut Planned,
@@ -163,8 +181,15 @@ fn bring_costs(
     ensures parents { IsTrue result → HaveParents known.now made.new.graph }
     ensures costs { IsTrue result → map costs_in made.new.graph
         ≡ slice_set (map costs_in made.old.graph) number costs }
+    ensures exact { IsTrue result ↔ (AreFree costs
+        ⊎ (slice_index_or (map costs_in made.old.graph) number costs ≡ costs)) }
+    ensures freed { IsTrue result → (n : ℕ) → (vertex made.new.graph n
+        ≡ vertex made.old.graph n) ⊎ IsFree (vertex made.new.graph n) }
 {
     if number >= made.graph.vertices().len() {
+        return true;
+    }
+    if costs_are(made, number, costs) {
         return true;
     }
     if !are_free(costs) {
@@ -180,9 +205,18 @@ fn bring_costs(
     )
 }
 
+/// Whether a vertex has these costs.
+fn costs_are(made: &Planned, number: usize, costs: Costs) -> bool
+    requires { number < length made.now.graph }
+    ensures { IsTrue result ↔ (slice_index_or (map costs_in made.now.graph) number costs ≡ costs) }
+{
+    let vertex = &made.graph.vertices()[number];
+    vertex.load == costs.load && vertex.compute == costs.compute
+}
+
 /// Whether these are the costs of a free vertex.
 fn are_free(costs: Costs) -> bool
-    ensures { IsTrue result → AreWithin costs }
+    ensures { IsTrue result ↔ AreFree costs }
 {
     costs.load == Some(0) && 1 <= costs.compute && costs.compute <= MOST_COST
 }
@@ -199,6 +233,8 @@ fn bring_flags(alloc: Global, made: &mut Planned, known: &[KnownJob<'_>], needed
         ≡ map costs_in made.old.graph }
     ensures flagged { IsTrue result → AreFlaggedBelow known.now needed.now made.new.graph
         (length made.old.graph) }
+    ensures exact { IsTrue result ↔ ((n : ℕ) → n < length made.old.graph
+        → IsFlaggedOrFree needed.now made.old.graph n) }
 {
     let count = made.graph.vertices().len();
     for number in 0..count {
@@ -227,6 +263,7 @@ fn bring_flag(
     ensures brought { IsTrue result → IsBrought made.old.graph made.new.graph number
         (vertex_of (parents_at known.now number) (costs_in (vertex made.old.graph number))
         (slice_index_or needed.now number false)) }
+    ensures exact { IsTrue result ↔ IsFlaggedOrFree needed.now made.old.graph number }
 {
     let vertex = &made.graph.vertices()[number];
     if is_flagged(vertex, needed[number]) {
@@ -245,8 +282,9 @@ fn bring_flag(
 
 /// Whether a vertex is needed or not as this says.
 fn is_flagged(vertex: &Vertex, needed: bool) -> bool
-    ensures { IsTrue result → vertex.now
+    ensures same { IsTrue result → vertex.now
         ≡ vertex_of vertex.now.parents (costs_in vertex.now) needed }
+    ensures exact { IsTrue result ↔ (vertex.now.needed ≡ needed) }
 {
     vertex.needed == needed
 }
@@ -273,9 +311,12 @@ fn add_later(
     requires flagged { AreFlaggedBelow known.now needed.now made.graph (length made.graph) }
     requires each { length made.graph + length later.now ≡ length known.now }
     requires needed { length needed.now ≡ length known.now }
-    ensures { IfOk result (λ found. IfSome found (λ more. IsKeptApart more
+    ensures made { IfOk result (λ found. IfSome found (λ more. IsKeptApart more
         × (more.graph ≡ vertices_of known.now (map costs_in made.graph ++ later.now)
         needed.now))) }
+    ensures found { IfOk result (λ found. IsSome found
+        ↔ IsGraphApart (vertices_of known.now (map costs_in made.graph ++ later.now)
+        needed.now)) }
 {
     let mut made = made;
     let count = made.graph.vertices().len();

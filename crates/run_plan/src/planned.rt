@@ -4,6 +4,7 @@ ghost use Rattle.job_graph.specs.PresentJobGraph.{AreWithin, present_job_graph};
 ghost use Rattle.job_graph.specs.Unfolding.{Blames};
 ghost use Rattle.plan_checker.specs.Certificate.{IsCertificate};
 ghost use Rattle.plan_checker.specs.Least.{IsLeast};
+ghost use Rattle.plan_keeper.specs.Apart.{AreApart};
 ghost use Rattle.run_plan.specs.Planned.{IsPlanOf};
 
 use crate::kept::KeptPlan;
@@ -53,6 +54,7 @@ fn planned_whole(
     graph: Graph,
     last: Option<&Charges>,
 ) -> Result<KeptPlan, AllocError>
+    requires { ¬ AreApart graph }
     ensures { IfOk result (IsPlanOf graph) }
 {
     match plan_of(alloc, &graph, last) {

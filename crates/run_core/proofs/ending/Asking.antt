@@ -1,18 +1,19 @@
 -- What the machine asks may be asked, and it waits for a child only where one is in flight.
 use Rattle.std.specs.Prelude.{◌≢◌}
-use Rattle.std.proofs.Common.{◌≡◌, [], refl, ap}
+use Rattle.std.proofs.Common.{◌≡◌, ◌∙◌, [], List, length, refl, ap}
 use Rattle.proc_host.specs.declared.call.HostRequest.{HostRequest}
 use Rattle.job_graph.specs.Words.{JobPlace}
+use Rattle.run_rules.specs.declared.outcome.PlanNote.{PlanNote}
 use Rattle.run_rules.specs.declared.request.Request.{Request}
 use Rattle.run_rules.specs.Plans.{InForce}
 use Rattle.run_rules.specs.Scene.{scene_of}
 use Rattle.run_rules.proofs.KeyOf.{next_under_key}
 use Rattle.run_core.specs.declared.runner.RunCore.TheInside.{Inside}
 use Rattle.run_core.specs.declared.state.Turn.{Turn}
-use Rattle.run_core.specs.Core.{HasNotRunOut, HasPlans, MayAsk, allowed, drains}
+use Rattle.run_core.specs.Core.{HasCounted, HasNotRunOut, HasPlans, MayAsk, allowed, drains}
 use Rattle.run_core.specs.inner.Inside.{Goes, Stands, mode_of, off_run, on_run, seen, setting_in}
 use Rattle.run_core.specs.inner.Course.{Past, past_of}
-use Rattle.run_core.specs.inner.Standing.{IsLostAt, draining, lost}
+use Rattle.run_core.specs.inner.Standing.{IsLostAt, RanOut, draining, lost}
 use Rattle.run_core.proofs.going.Asked.{collects_some}
 use Rattle.run_core.proofs.going.Given.{allows, is_first, laws_of}
 
@@ -57,13 +58,28 @@ module _ (core : Inside) where
 -- What it shows
 
 module _ (core : Inside) where
-  plans_so : Goes core → HasNotRunOut (seen core) → HasPlans (seen core)
-  plans_so (on_run runs) going = record { happened = runs.happened; plans = runs.plans; run = runs.goes; shows = runs.planned.0 }
-  plans_so (off_run out) going = absurd (lost_by core.turn refl (out.at))
+  never_out : RanOut (scene_of (setting_in core.given)) core.pairs.items (past_of core.course) core.turn → HasNotRunOut (seen core) → ⊥
+  never_out out going = lost_by core.turn refl out.at
     where
       lost_by : (turn : Turn) → core.turn ≡ turn → IsLostAt (past_of core.course) turn → ⊥
       lost_by turn is (draining some) = going.goes (ap (λ (t : Turn). mode_of t.phase) is)
       lost_by turn is lost = going.not_lost (ap (λ (t : Turn). mode_of t.phase) is)
 
+  plans_so : Goes core → HasNotRunOut (seen core) → HasPlans (seen core)
+  plans_so (on_run runs) going = record { happened = runs.happened; plans = runs.plans; run = runs.goes; shows = runs.planned.0 }
+  plans_so (off_run out) going = absurd (never_out out going)
+
   pub has_plans : Stands core → HasNotRunOut (seen core) → HasPlans (seen core)
   has_plans stands = plans_so stands.going
+
+  counted_so : Goes core → HasNotRunOut (seen core) → HasCounted (seen core) core.course.counts
+  counted_so (on_run runs) going = record {
+    happened = runs.happened;
+    plans = runs.plans;
+    run = runs.goes;
+    each = core.course.counted ∙ ap (λ (notes : List PlanNote). length notes) runs.planned.1;
+  }
+  counted_so (off_run out) going = absurd (never_out out going)
+
+  pub has_counted : Stands core → HasNotRunOut (seen core) → HasCounted (seen core) core.course.counts
+  has_counted stands = counted_so stands.going

@@ -1,8 +1,9 @@
 -- The vertices that have the parents of their jobs, and are needed where those are.
-use Rattle.std.specs.Prelude.{◌≡◌, ◌<◌, ℕ, Bool, false, List, [], length, map, slice_index_or}
+use Rattle.std.specs.Prelude.{◌≡◌, ◌⊎◌, ◌<◌, ℕ, Bool, false, List, [], length, map, slice_index_or}
 use Rattle.job_graph.specs.declared.growth.KnownJob.{KnownJob}
 use Rattle.plan_checker.specs.Graph.{vertex}
 use Rattle.plan_checker.specs.declared.vertex.Vertex.{Vertex}
+use Rattle.plan_keeper.specs.Free.{IsFree}
 use Rattle.run_plan.specs.Touched.{costs_in}
 use Rattle.run_plan.specs.inner.Again.{vertex_of}
 
@@ -18,3 +19,7 @@ HaveParents known graph = (i : ℕ) → i < length graph → (vertex graph i).pa
 abbrev pub AreFlaggedBelow : List KnownJob → List Bool → List Vertex → ℕ → Type 0
 AreFlaggedBelow known needed graph n =
     (i : ℕ) → i < n → vertex graph i ≡ vertex_of (parents_at known i) (costs_in (vertex graph i)) (slice_index_or needed i false)
+
+-- the vertex is needed or not as this says, or free
+abbrev pub IsFlaggedOrFree : List Bool → List Vertex → ℕ → Type 0
+IsFlaggedOrFree needed graph n = ((vertex graph n).needed ≡ slice_index_or needed n false) ⊎ IsFree (vertex graph n)

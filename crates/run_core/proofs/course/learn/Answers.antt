@@ -23,6 +23,7 @@ returns-in-Some-clause-told c = λ kept is.
 pub invariant_of-course : goal.invariant_of-course
 invariant_of-course c = record {
   fits = c.args.course.now.fits;
+  counted = c.args.course.now.counted;
   first = λ yes.
       learned_first (graph_in c.args.course.now.planned) c.in-Some.unfolding c.learn.new.self c.learn.result c.learn.ensures.ok c.learn.ensures.err
       (subst (λ (known : Option Unfolding). AreOfFirst (graph_in c.args.course.now.planned) (known_in known)) c.in-Some.is (c.args.course.now.first yes));

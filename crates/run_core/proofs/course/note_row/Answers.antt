@@ -15,4 +15,5 @@ invariant_of-course-2 c =
           c.touched_too-touched.ensures)
           old.fits;
       first = old.first;
+      counted = old.counted;
     }

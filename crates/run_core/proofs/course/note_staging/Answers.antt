@@ -11,4 +11,5 @@ invariant_of-course-2 c =
       fits = fits_staged old.rates old.keep old.jobs c.stage.new.self old.lost.items old.rows c.args.number (old.folders + 1) old.touched c.add.new.self old.planned c.in_ok-stage.ensures
           (subst (λ (touched : Option (List ℕ)). Touches c.args.number touched c.add.new.self) c.replace-touched.ensures.value c.add.ensures) old.fits;
       first = old.first;
+      counted = old.counted;
     }

@@ -14,4 +14,4 @@ returns-clause-is c =
 pub invariant_of-course : goal.invariant_of-course
 invariant_of-course c =
     let old : Course = c.args.course.now in
-    record { fits = fits_brought old.rates old.keep old.jobs c.bring.new.self old.lost.items old.rows c.args.number old.touched old.planned c.bring.ensures old.fits; first = old.first }
+    record { fits = fits_brought old.rates old.keep old.jobs c.bring.new.self old.lost.items old.rows c.args.number old.touched old.planned c.bring.ensures old.fits; first = old.first; counted = old.counted }

@@ -1,5 +1,5 @@
-use Rattle.std.specs.Prelude.{IfSome}
-use Rattle.std.proofs.Common.{◌≡◌, ◌∙◌, List, Option, ap, subst, sym}
+use Rattle.std.specs.Prelude.{◌↔◌, IfSome, IsSome}
+use Rattle.std.proofs.Common.{◌≡◌, ◌∙◌, List, Option, ap, false, subst, sym, true}
 use Rattle.job_graph.specs.PresentJobGraph.{present_job_graph}
 use Rattle.plan_checker.specs.Certificate.{IsCertificate}
 use Rattle.plan_checker.specs.Least.{IsLeast}
@@ -8,7 +8,9 @@ use Rattle.plan_checker.specs.declared.vertex.Vertex.{Vertex}
 use Rattle.plan_keeper.specs.Kept.{IsKeptApart}
 use Rattle.plan_keeper.specs.declared.planned.Planned.{Planned}
 use Rattle.run_plan.specs.inner.Again.{vertices_of}
+use Rattle.run_plan.specs.Brought.{StaysApart}
 use Rattle.run_plan.specs.Planned.{IsPlanOf}
+use Rattle.run_plan.proofs.Apart.{anew_exactly}
 use Rattle.run_plan.proofs.Brought.{are_present}
 use Rattle.run_plan.proofs.again.plan_by.Goals as goal
 
@@ -17,7 +19,7 @@ returns-in-Some-clause-ok c =
     let known = c.args.known.now in
     let made = c.in-Some.made in
     let brought = subst (λ (found : Option Planned). IfSome found (λ made. IsKeptApart made × (made.graph ≡ vertices_of c.known.result.now c.args.costs.now c.args.needed.now))) c.in-Some.is
-    c.in_ok-made.ensures in
+    c.in_ok-made.ensures.made in
     let graph : made.graph ≡ present_job_graph known.learned known.known known.outs c.args.costs.now =
     brought.1
     ∙ are_present known.learned known.outs c.known.result.now c.args.costs.now c.args.needed.now known.known c.known.ensures.jobs c.known.ensures.parents c.requires.needed in
@@ -28,3 +30,24 @@ returns-in-Some-clause-ok c =
       certified = subst (λ (vertices : List Vertex). IsCertificate vertices made.plan.marks made.charges) graph plan.1;
       its_cost = brought.0.its_cost ∙ ap (λ (vertices : List Vertex). cost vertices made.plan.marks) graph;
     })
+
+pub returns-in-Some-clause-brought : goal.returns-in-Some-clause-brought
+returns-in-Some-clause-brought c =
+    let known = c.args.known.now in
+    let present : List Vertex = present_job_graph known.learned known.known known.outs c.args.costs.now in
+    let exact =
+    subst (λ (graph : List Vertex). IsSome c.in_ok-made.field-0 ↔ StaysApart c.args.made.graph graph)
+    (are_present known.learned known.outs c.known.result.now c.args.costs.now c.args.needed.now known.known c.known.ensures.jobs c.known.ensures.parents c.requires.needed)
+    c.in_ok-made.ensures.found in
+    subst (λ (found : Option Planned). IsSome found ↔ StaysApart c.args.made.graph present) c.in-Some.is exact
+
+pub returns-in-None-clause-brought : goal.returns-in-None-clause-brought
+returns-in-None-clause-brought c =
+    let known = c.args.known.now in
+    let present : List Vertex = present_job_graph known.learned known.known known.outs c.args.costs.now in
+    let exact =
+    subst (λ (graph : List Vertex). IsSome c.in_ok-made.field-0 ↔ StaysApart c.args.made.graph graph)
+    (are_present known.learned known.outs c.known.result.now c.args.costs.now c.args.needed.now known.known c.known.ensures.jobs c.known.ensures.parents c.requires.needed)
+    c.in_ok-made.ensures.found in
+    let none = subst (λ (found : Option Planned). IsSome found ↔ StaysApart c.args.made.graph present) c.in-None.is exact in
+    anew_exactly (StaysApart c.args.made.graph present) c.plan_anew.result c.plan_anew.ensures.anew (λ can. let never : false ≡ true = none.1 can in absurd cc)

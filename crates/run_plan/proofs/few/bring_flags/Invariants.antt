@@ -2,6 +2,7 @@ use Rattle.std.proofs.Common.{◌≡◌, length, map}
 use Rattle.plan_keeper.specs.Kept.{IsKeptApart}
 use Rattle.run_plan.specs.Touched.{costs_in}
 use Rattle.run_plan.specs.inner.Flagged.{AreFlaggedBelow, HaveParents}
+use Rattle.run_plan.proofs.FewBrought.{AreFlagsBelow}
 use Rattle.run_plan.proofs.few.bring_flags.Given as goal
 
 abbrev pub invariant-loop-number : goal.invariant-loop-number
@@ -11,4 +12,5 @@ invariant-loop-number l = record {
   parents : HaveParents l.known l.made.graph;
   costs : map costs_in l.made.graph ≡ map costs_in l.initial.made.graph;
   flagged : AreFlaggedBelow l.known l.needed l.made.graph l.number;
+  flags : AreFlagsBelow l.needed l.initial.made.graph l.made.graph l.number;
 }
