@@ -1,5 +1,6 @@
 use collected_outputs::OutputFault;
 use cwl_value::{JobPlace, Value, canonical_text, place_text};
+use host_rows::answers::{put_numbers, put_text};
 use input_files::ContentsFault;
 use row_io::{AnswerText, RowFault};
 use run_core::{Cause, CollectCause, Outcome, Report, RunFault};
@@ -52,14 +53,6 @@ fn put_cause(alloc: Global, out: &mut AnswerText, cause: &Cause) {
     let mut text = AnswerText::new(alloc);
     put_cause_words(&mut text, cause);
     put_text(out, text);
-}
-
-/// Writes a text that was written piece by piece, as JSON.
-pub fn put_text(out: &mut AnswerText, text: AnswerText) {
-    match text.finish() {
-        Ok(text) => out.put_quoted(text.as_str()),
-        Err(fault) => out.fail(fault),
-    }
 }
 
 fn put_cause_words(out: &mut AnswerText, cause: &Cause) {
@@ -139,14 +132,4 @@ fn put_run_fault(alloc: Global, out: &mut AnswerText, fault: &RunFault) {
 fn put_code(out: &mut AnswerText, code: &str) {
     out.put("{\"fault\":");
     out.put_quoted(code);
-}
-
-/// Writes the JSON list of these numbers.
-pub fn put_numbers(out: &mut AnswerText, all: &[u64]) {
-    out.put("[");
-    for number in all {
-        out.put_comma();
-        out.put_natural(*number);
-    }
-    out.put("]");
 }

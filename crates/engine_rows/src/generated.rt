@@ -140,7 +140,8 @@ fn followed(
     let mut seen = NOTHING;
     let mut last = String::new(alloc);
     while !matches!(core.next(), Request::Finished) {
-        let answer = answer_with(alloc, core.next(), core.in_flight(), chance, rows)?;
+        let keeps = Keeps::Most;
+        let answer = answer_with(alloc, core.next(), core.in_flight(), chance, rows, keeps)?;
         if take_answer(core, answer).is_err() {
             return Err(RowFault::OutOfMemory);
         }
@@ -200,13 +201,23 @@ fn cost_in(alloc: Global, text: &[u8]) -> Option<u64> {
     cost
 }
 
+/// Which rows a record keeps that are put.
+#[derive(Clone, Copy)]
+pub enum Keeps {
+    /// Each one with its archive, at a cost above that of any fetch.
+    All,
+    /// Four of five with another cost, and the archives of most of these.
+    Most,
+}
+
 /// An answer to what a machine asks next, where the record answers for itself and each file that was archived is there.
-fn answer_with(
+pub fn answer_with(
     alloc: Global,
     asks: &Request,
     flying: &[u64],
     chance: &mut Chance,
     rows: &mut MemoryRecord,
+    keeps: Keeps,
 ) -> Result<Answer, AllocError>
     requires { asks.now ≢ Asks.Finished }
     ensures { IfOk result (MayAnswer flying.now asks.now) }
@@ -215,7 +226,9 @@ fn answer_with(
         Request::Host(place, request) => {
             Ok(Answer::Host(answer_of_host(alloc, place, request, flying, chance)?))
         }
-        Request::Record(_, request) => Ok(Answer::Record(told(alloc, request, chance, rows)?)),
+        Request::Record(_, request) => {
+            Ok(Answer::Record(told(alloc, request, chance, rows, keeps)?))
+        }
         Request::Finished => unreachable!(),
     }
 }
@@ -236,19 +249,20 @@ fn answer_of_host(
     }
 }
 
-/// What the record tells. It keeps some of the rows that are put.
+/// What the record tells.
 fn told(
     alloc: Global,
     request: &RecordRequest,
     chance: &mut Chance,
     rows: &mut MemoryRecord,
+    keeps: Keeps,
 ) -> Result<RecordAnswer, AllocError>
     ensures { IfOk result (CanTell request.now) }
 {
     match request {
         RecordRequest::Find(key) => Ok(RecordAnswer::Found(found_in(rows, key))),
         RecordRequest::Put(row) => {
-            keep(alloc, row, chance, rows)?;
+            keep(alloc, row, chance, rows, keeps)?;
             Ok(RecordAnswer::Done)
         }
         RecordRequest::DropArchive(key) => {
@@ -268,8 +282,23 @@ fn found_in(rows: &mut MemoryRecord, key: &Text) -> Option<Kept>
     }
 }
 
-/// Keeps four rows of five, with another cost, and the archives of most of these.
+/// A cost above that of any fetch of what a job leaves: that is less than a million bytes.
+const DEAR: u64 = 100;
+
 fn keep<K: Record>(
+    alloc: Global,
+    row: &Kept,
+    chance: &mut Chance,
+    rows: &mut K,
+    keeps: Keeps,
+) -> Result<(), AllocError> {
+    match keeps {
+        Keeps::All => keep_at(alloc, row, DEAR, row.archived, rows),
+        Keeps::Most => keep_some(alloc, row, chance, rows),
+    }
+}
+
+fn keep_some<K: Record>(
     alloc: Global,
     row: &Kept,
     chance: &mut Chance,
@@ -278,9 +307,21 @@ fn keep<K: Record>(
     if chance.below(5) == 0 {
         return Ok(());
     }
+    let cost = 1 + chance.below(12);
+    let archived = chance.below(4) > 0;
+    keep_at(alloc, row, cost, archived, rows)
+}
+
+fn keep_at<K: Record>(
+    alloc: Global,
+    row: &Kept,
+    cost: u64,
+    archived: bool,
+    rows: &mut K,
+) -> Result<(), AllocError> {
     let mut kept = row.clone_in(alloc)?;
-    kept.cost = 1 + chance.below(12);
-    kept.archived = chance.below(4) > 0;
+    kept.cost = cost;
+    kept.archived = archived;
     let _put = rows.put(&kept);
     mem::drop(kept);
     Ok(())

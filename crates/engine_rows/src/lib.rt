@@ -1,32 +1,21 @@
-//! Rows of hosts and runs: some are over a scripted host, and others over real children and real files.
-//!
-//! A host's script is a list of the answers that it gives: `{"measured":MEASURE}` (null, `[SIZE,SUM]` or
-//! `{"folder":[..]}`), `{"head":TEXT}`, `{"staged":true}`, `{"started":true}`,
-//! `{"ended":[TICKET,CODE,MILLIS]}` (the code is null for a child that a signal ended),
-//! `{"found":[[NAME,IS_DIR,SIZE,SUM]]}`, `{"fetched":[..]}` with such entries, `{"stored":true}` and `{"delivered":true}`. A call that
-//! the script does not answer next fails.
+//! Rows of runs: some are over a scripted host, and others over real children and real files. `host_rows` says what a script is.
 #![tactic(auto)]
 
 mod alone;
 mod came;
 mod cheapest;
-mod copies;
+mod counted;
 mod end;
-mod failing;
+mod failed_calls;
 mod generated;
 mod generator;
 mod giving_up;
-mod hosts;
-mod lost;
-pub mod machine;
 mod orders;
-mod requests;
 mod run;
 mod runs;
-mod script;
 mod stopped;
 mod timed;
-mod words;
+mod trial;
 
 use crate::run::case_of;
 use row_io::{AnswerText, Row, RowFault};
@@ -37,9 +26,7 @@ use std::mem;
 pub fn answer(rt: &HostRuntime, row: &Row) -> Result<String, RowFault> {
     match row.call() {
         "timed" => timed::answer(rt, row),
-        "child" | "children" | "stage" | "deliver" => machine::told_of(rt, row),
-        "archive" | "fails_after" => machine::told_of(rt, row),
-        "measure" | "scan" | "head" | "remove" => machine::told_of(rt, row),
+        "fails_after" => failed_calls::answer(rt, row),
         _ => scripted(rt.alloc(), row),
     }
 }
@@ -55,13 +42,8 @@ fn scripted(alloc: Global, row: &Row) -> Result<String, RowFault> {
 
 fn put_scripted(alloc: Global, row: &Row, out: &mut AnswerText) -> Result<(), RowFault> {
     match row.call() {
-        "host" => hosts::put_answer(alloc, row, out),
-        "classify" => words::put_class(alloc, row, out),
-        "fault_code" => words::put_fault_code(row, out),
-        "copy_listing" => copies::put_listing_copy(alloc, row, out),
-        "copy_plan" => copies::put_plan_copy(alloc, row, out),
         "run" | "run_again" | "run_archiving" | "runs" => runs::put_answer(alloc, row, out),
-        "run_stops" | "gives_up" | "orders" => put_of_case(alloc, row, out),
+        "run_stops" | "gives_up" | "orders" | "plan_counts" => put_of_case(alloc, row, out),
         "generated_runs" => generated::put_answer(alloc, row, out),
         _ => Err(RowFault::UnknownCall),
     }
@@ -73,6 +55,7 @@ fn put_of_case(alloc: Global, row: &Row, out: &mut AnswerText) -> Result<(), Row
     let put = match row.call() {
         "run_stops" => stopped::put_answer(alloc, row, &case, out),
         "gives_up" => giving_up::put_answer(alloc, row, &case, out),
+        "plan_counts" => counted::put_answer(alloc, row, &case, out),
         _ => orders::put_answer(alloc, row, &case, out),
     };
     mem::drop(case);

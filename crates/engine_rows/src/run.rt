@@ -2,13 +2,13 @@
 ghost use Rattle.std.specs.Prelude.{◌≡◌, ◌≤◌, ◌^◌, [], IfOk};
 ghost use Rattle.run_core.specs.Limits.{IsWithinLimits};
 
-use crate::script::script_of;
 use cwl_value::{Value, from_json};
 use document_links::{Docs, Document, Process, read_process};
 use file_values::resolve;
+use host_rows::script::natural_or;
 use job_rows::Record;
 use plain_data::{Items, Keyed, Text};
-use proc_host::{Host, Scripted};
+use proc_host::Host;
 use row_io::{Row, RowFault, json_text};
 use run_core::{Options, Report, RunCore, RunFault};
 use serde_json::Value as Json;
@@ -40,14 +40,6 @@ pub fn case_at(alloc: Global, row: &Row, location: &str) -> Result<Case, RowFaul
             Err(fault)
         }
     }
-}
-
-/// A host that answers from the row's script of this name; it collects once `least_started` children were started, where the row says so.
-pub fn host_by(alloc: Global, row: &Row, script: &str) -> Result<Scripted, RowFault>
-    ensures { IfOk result (λ host. host.running ≡ []) }
-{
-    let least_started = natural_or(row, "least_started", 0)?;
-    Ok(Scripted::new(alloc, script_of(alloc, row, script)?, least_started))
 }
 
 fn accepted(alloc: Global, row: &Row) -> Result<Accepted, RowFault> {
@@ -104,14 +96,6 @@ fn done<T, E: Drop>(outcome: Result<T, E>) -> Result<T, RowFault> {
         Ok(value) => Ok(value),
         Err(_) => Err(RowFault::BadArgument),
     }
-}
-
-/// A number of the row, or this one where it has none.
-fn natural_or(row: &Row, name: &str, absent: u64) -> Result<u64, RowFault> {
-    if row.find(name).is_none() {
-        return Ok(absent);
-    }
-    row.natural(name)
 }
 
 /// How a run of a case ends over a host and a record. It says nothing of the end, so that a caller over a host that is named is

@@ -1,9 +1,11 @@
 //! Runs over a script and a record in memory: how each ended, what was noted, and what it asked.
 ghost use Rattle.std.specs.Prelude.{◌≡◌, []};
 
-use crate::end::{put_end, put_numbers, put_place};
-use crate::requests::put_requests;
-use crate::run::{Case, case_of, end_over, host_by, options_with};
+use crate::end::{put_end, put_place};
+use crate::run::{Case, case_of, end_over, options_with};
+use host_rows::answers::put_numbers;
+use host_rows::requests::put_requests;
+use host_rows::script::host_by;
 use job_rows::{Command, Entry, MemoryRecord, Record, RecordError, Row as Kept};
 use plain_data::{Items, Text};
 use proc_host::Scripted;

@@ -2,8 +2,9 @@
 ghost use Rattle.std.specs.Prelude.{◌≡◌, []};
 
 use crate::came::{Came, UNASKED, came_of};
-use crate::run::{Case, end_over, host_by, options_with};
+use crate::run::{Case, end_over, options_with};
 use crate::runs::keys_put;
+use host_rows::script::host_by;
 use job_rows::Row as Kept;
 use plain_data::{Items, Text};
 use proc_host::Scripted;

@@ -1,12 +1,30 @@
+ghost use Rattle.std.specs.Prelude.{◌≡◌, [], IfOk};
+
 use plain_data::{Items, Text};
-use proc_host::{ChildEnd, Reply};
+use proc_host::{ChildEnd, Reply, Scripted};
 use row_io::{Row, RowFault};
 use serde_json::Value as Json;
 use staging::{Found, Measure};
 use std::alloc::{AllocError, Global};
 
+/// A host that answers from the row's script of this name; it collects once `least_started` children were started, where the row says so.
+pub fn host_by(alloc: Global, row: &Row, script: &str) -> Result<Scripted, RowFault>
+    ensures { IfOk result (λ host. host.running ≡ []) }
+{
+    let least_started = natural_or(row, "least_started", 0)?;
+    Ok(Scripted::new(alloc, script_of(alloc, row, script)?, least_started))
+}
+
+/// A number of the row, or this one if it has none.
+pub fn natural_or(row: &Row, name: &str, absent: u64) -> Result<u64, RowFault> {
+    if row.find(name).is_none() {
+        return Ok(absent);
+    }
+    row.natural(name)
+}
+
 /// The script that a row has under a name.
-pub fn script_of(alloc: Global, row: &Row, name: &str) -> Result<Items<Reply>, RowFault> {
+fn script_of(alloc: Global, row: &Row, name: &str) -> Result<Items<Reply>, RowFault> {
     let mut script = Items::new(alloc);
     for reply in row.list(name)? {
         script.push(reply_of(alloc, reply)?)?;

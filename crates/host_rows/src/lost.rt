@@ -1,6 +1,6 @@
 //! The call of a host that failed, in the place of an answer.
 ghost use Rattle.std.specs.Prelude.{◌≡◌, ◌++◌, List, length};
-ghost use Rattle.engine_rows.specs.Told.{told, IsWithin};
+ghost use Rattle.host_rows.specs.Told.{told, IsWithin};
 ghost use Rattle.proc_host.specs.Log.{answer_behind_error, entries_of, IsOnly};
 ghost use Rattle.proc_host.specs.declared.call.Entry.{Entry};
 

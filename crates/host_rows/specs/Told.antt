@@ -1,6 +1,6 @@
 -- The log of a host that fails once: its own entry stands among those of the host that it passes calls on to.
 use Rattle.std.specs.Prelude.{ℕ, ◌≤◌, List, ◌∷◌, ◌++◌, Option, Some, None, length, take, drop}
-use Rattle.engine_rows.specs.declared.lost.Lost.{Lost}
+use Rattle.host_rows.specs.declared.lost.Lost.{Lost}
 use Rattle.proc_host.specs.declared.call.Entry.{Entry}
 use Rattle.proc_host.specs.declared.call.HostAnswer.TheVariants.{Failed}
 

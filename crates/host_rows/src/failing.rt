@@ -25,7 +25,7 @@ pub struct Failing<R: World> {
 }
 
 impl<R: World> Model for Failing<R> {
-    ghost use Rattle.engine_rows.specs.Told.{told, IsWithin};
+    ghost use Rattle.host_rows.specs.Told.{told, IsWithin};
     ghost use Rattle.process_machine.specs.Machine.{MachineState};
     ghost use Rattle.cwl_value.specs.contracts.value.Value as value;
     ghost use Rattle.std.specs.Coded.{codes};
@@ -37,6 +37,7 @@ impl<R: World> Model for Failing<R> {
     ghost view = { λ fields. record {
       log = told fields.lost fields.inner.log;
       running = fields.inner.running;
+      guarded = fields.inner.guarded;
     } };
 
     ghost invariant = { λ fields. IsWithin fields.lost fields.inner.log };

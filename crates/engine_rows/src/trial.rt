@@ -2,13 +2,14 @@
 ghost use Rattle.std.specs.Prelude.{◌≡◌, [], IfOk};
 ghost use Rattle.run_core.specs.Limits.{IsWithinLimits};
 
-use crate::end::{put_end, put_numbers};
-use crate::failing::Failing;
-use crate::lost::Loss;
-use crate::machine::listing::{put_fault, put_measure};
-use crate::machine::place::{below, done, machine};
+use crate::end::put_end;
 use crate::run::{Case, Paths, end_over, options_at};
 use crate::runs::failure_of;
+use host_rows::answers::put_numbers;
+use host_rows::failing::Failing;
+use host_rows::lost::Loss;
+use host_rows::machine::listing::{put_fault, put_measure};
+use host_rows::machine::place::{below, done, machine};
 use job_rows::{Command, Entry as Asked, MemoryRecord, Record};
 use plain_data::Text;
 use proc_host::{Entry, Host, HostAnswer};

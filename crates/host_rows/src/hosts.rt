@@ -1,5 +1,5 @@
+use crate::answers::put_numbers;
 use crate::copies::put_scripted;
-use crate::end::put_numbers;
 use crate::machine::archives::{put_done, put_fetched};
 use crate::machine::child::put_folder;
 use crate::machine::children::close_all;
@@ -7,8 +7,7 @@ use crate::machine::listing::{put_code, put_fault};
 use crate::machine::paths::put_head;
 use crate::machine::place::empty_plan;
 use crate::requests::put_requests;
-use crate::run::host_by;
-use crate::script::listing_of;
+use crate::script::{host_by, listing_of};
 use command_line::Launch;
 use plain_data::{Items, Text};
 use proc_host::{ChildEnd, Host, Scripted, Ticket};

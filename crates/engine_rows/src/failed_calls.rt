@@ -1,8 +1,8 @@
 //! Runs over real children and real files in which each call of the host fails in turn.
 
-use crate::machine::ended::{Ended, Leg, Trial, end_of_run};
-use crate::machine::place::done;
 use crate::run::{Case, case_at};
+use crate::trial::{Ended, Leg, Trial, end_of_run};
+use host_rows::machine::place::{done, made, prepared, removed};
 use job_rows::MemoryRecord;
 use row_io::{AnswerText, Row, RowFault};
 use std::alloc::Global;
@@ -26,7 +26,15 @@ struct Kept {
 /// How a row's run ends where its first, its second, .. its last call of the host fails, with how many rows it put. `whole` says that its OUTDIR
 /// has nothing then, or all; `rows` that it put no more rows than children ended; `again` that the run after it ends as one
 /// that nothing failed, with the same in OUTDIR. Where the row is `warm`, a run that nothing fails comes before each.
-pub fn told_of(rt: &HostRuntime, row: &Row, place: &str) -> Result<String, RowFault> {
+pub fn answer(rt: &HostRuntime, row: &Row) -> Result<String, RowFault> {
+    let place = made(rt)?;
+    let told = told_of(rt, row, place.as_str());
+    removed(rt, place.as_str())?;
+    told
+}
+
+fn told_of(rt: &HostRuntime, row: &Row, place: &str) -> Result<String, RowFault> {
+    prepared(rt, row, place)?;
     let case = case_in(rt.alloc(), row, place)?;
     let told = told_with(rt, row, place, &case);
     mem::drop(case);

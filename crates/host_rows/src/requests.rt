@@ -1,4 +1,4 @@
-use crate::end::put_text;
+use crate::answers::put_text;
 use command_line::Launch;
 use plain_data::Items;
 use proc_host::{Entry, HostRequest};

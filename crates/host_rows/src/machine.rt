@@ -2,9 +2,7 @@ pub(crate) mod archives;
 pub mod child;
 pub(crate) mod children;
 mod copies;
-mod ended;
-mod faults;
-pub(crate) mod listing;
+pub mod listing;
 pub(crate) mod paths;
 pub mod place;
 pub mod shell;
@@ -26,10 +24,7 @@ pub fn told_of(rt: &HostRuntime, row: &Row) -> Result<String, RowFault> {
 
 fn told_in(rt: &HostRuntime, row: &Row, place: &str) -> Result<String, RowFault> {
     prepared(rt, row, place)?;
-    match row.call() {
-        "fails_after" => faults::told_of(rt, row, place),
-        _ => told_by_machine(rt, row, place),
-    }
+    told_by_machine(rt, row, place)
 }
 
 /// The answer of a call of one machine.
@@ -60,7 +55,7 @@ where
             children::put_told(rt, host, row, place, out);
             Ok(())
         }
-        "stage" | "deliver" => copies::put_told(rt.alloc(), host, row, place, out),
+        "stage" | "deliver" => copies::put_told(rt, host, row, place, out),
         "measure" | "scan" | "head" => paths::put_told(rt.alloc(), host, row, place, out),
         "remove" => paths::put_removed(rt, host, row, place, out),
         _ => Err(RowFault::UnknownCall),

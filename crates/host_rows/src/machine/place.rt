@@ -26,9 +26,19 @@ pub fn below(alloc: Global, place: &str, name: &str) -> Result<Text, AllocError>
 
 /// Runs the row's `before`, a script of the shell, in its folder.
 pub fn prepared(rt: &HostRuntime, row: &Row, place: &str) -> Result<(), RowFault> {
-    match row.find("before") {
+    scripted(rt, row, "before", place)
+}
+
+/// Runs the script of the shell that a row has under a name, where it has one, in its folder.
+pub(crate) fn scripted(
+    rt: &HostRuntime,
+    row: &Row,
+    name: &str,
+    place: &str,
+) -> Result<(), RowFault> {
+    match row.find(name) {
         None => Ok(()),
-        Some(_) => run_script(rt, row.text("before")?, place),
+        Some(_) => run_script(rt, row.text(name)?, place),
     }
 }
 

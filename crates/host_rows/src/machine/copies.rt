@@ -1,6 +1,7 @@
 use crate::machine::child::put_folder;
 use crate::machine::listing::put_fault;
-use crate::machine::place::below;
+use crate::machine::place::{below, scripted};
+use crate::machine::shell::put_said;
 use plain_data::{Items, Keyed, Text};
 use proc_host::{Host, HostError};
 use process_machine::{Hindrance, Machine, Undelivered, World};
@@ -11,9 +12,10 @@ use std::alloc::Global;
 use std::mem;
 use std::process::Stdio;
 
-/// Writes what a stage or a delivery of these moves answers, once these paths were measured, and what the row's folder holds then.
+/// Writes what a stage or a delivery of these moves answers, once these paths were measured, these folders scanned and the script `then`
+/// has run, and what the row's folder holds then.
 pub fn put_told<R: World>(
-    alloc: Global,
+    rt: &HostRuntime,
     host: &mut Machine<R>,
     row: &Row,
     place: &str,
@@ -22,10 +24,15 @@ pub fn put_told<R: World>(
 where
     R::File: Into<Stdio>,
 {
-    measure_all(alloc, host, row, place)?;
-    put_copied(alloc, host, row, place, out)?;
+    look_at_all(rt.alloc(), host, row, place)?;
+    scripted(rt, row, "then", place)?;
+    put_copied(rt.alloc(), host, row, place, out)?;
     if row.find("why").is_some() {
         put_why(host, place, out);
+    }
+    if row.find("sh").is_some() {
+        out.put(",\"sh\":");
+        put_said(rt, row.text("sh")?, place, out)?;
     }
     out.put("}");
     Ok(())
@@ -45,49 +52,84 @@ fn put_copied<H: Host>(
     Ok(())
 }
 
-// Adds which result could not be copied, and why.
+// Adds what could not be copied, why, and what is not as it was told, where that is why.
 fn put_why<R: World>(host: &Machine<R>, place: &str, out: &mut AnswerText) {
     out.put(",\"why\":");
     match host.undelivered() {
         None => out.put("null"),
-        Some(Undelivered { target, why }) => {
-            let name = target.as_str().strip_prefix(place).unwrap_or("");
+        Some(
+            Undelivered {
+                target,
+                why,
+                changed,
+            },
+        ) => {
             out.put("[");
-            out.put_quoted(name);
+            put_name(target, place, out);
             out.put(",");
             out.put_quoted(hindrance_name(*why));
+            if let Some(path) = changed {
+                out.put(",");
+                put_name(path, place, out);
+            }
             out.put("]");
         }
     }
 }
 
+fn put_name(path: &Text, place: &str, out: &mut AnswerText) {
+    out.put_quoted(path.as_str().strip_prefix(place).unwrap_or(""));
+}
+
 fn hindrance_name(why: Hindrance) -> &'static str {
     match why {
         Hindrance::Given => "Given",
+        Hindrance::Guarded => "Guarded",
         Hindrance::Taken => "Taken",
         Hindrance::Forbidden => "Forbidden",
         Hindrance::Full => "Full",
+        Hindrance::Changed => "Changed",
+        Hindrance::TooLong => "TooLong",
         Hindrance::Other => "Other",
     }
 }
 
-fn measure_all<H: Host>(
+fn look_at_all<H: Host>(
     alloc: Global,
     host: &mut H,
     row: &Row,
     place: &str,
 ) -> Result<(), RowFault> {
-    if row.find("measured").is_none() {
-        return Ok(());
+    if row.find("measured").is_some() {
+        for name in row.list("measured")? {
+            measure(host, &path_of(alloc, name, place)?)?;
+        }
     }
-    for name in row.list("measured")? {
-        let name = name.as_str().ok_or(RowFault::BadArgument)?;
-        let path = below(alloc, place, name)?;
-        if host.measure(&path).is_err() {
-            return Err(RowFault::BadArgument);
+    if row.find("scanned").is_some() {
+        for name in row.list("scanned")? {
+            scan(host, &path_of(alloc, name, place)?)?;
         }
     }
     Ok(())
+}
+
+fn path_of(alloc: Global, name: &Json, place: &str) -> Result<Text, RowFault> {
+    let name = name.as_str().ok_or(RowFault::BadArgument)?;
+    Ok(below(alloc, place, name)?)
+}
+
+fn measure<H: Host>(host: &mut H, path: &Text) -> Result<(), RowFault> {
+    match host.measure(path) {
+        Ok(_) => Ok(()),
+        Err(_) => Err(RowFault::BadArgument),
+    }
+}
+
+fn scan<H: Host>(host: &mut H, folder: &Text) -> Result<(), RowFault> {
+    match host.scan(folder) {
+        Ok(_) => Ok(()),
+        Err(_) => Err(RowFault::BadArgument),
+    }
 }
 
 fn copy<H: Host>(host: &mut H, row: &Row, plan: &StagePlan, folder: &Text, out: &mut AnswerText) {
