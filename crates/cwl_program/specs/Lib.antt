@@ -1,9 +1,11 @@
 pub mod Caches
 pub mod Certificates
 pub mod Demo
+pub mod Held
 pub mod Paths
 pub mod Plans
 pub mod Runs
+pub mod Seen
 pub mod Showings
 pub mod Sources
 pub mod Tells

@@ -7,18 +7,21 @@ use Rattle.document_links.specs.declared.process.Process.{Process}
 use Rattle.proc_host.specs.declared.call.Entry.{Entry}
 use Rattle.job_graph.specs.Words.{Fields}
 use Rattle.job_record.specs.declared.fault.RecordFault.{RecordFault}
+use Rattle.job_rows.specs.Memory.{MemoryState}
+use Rattle.job_rows.specs.declared.record.Record.{Ghosts as RowsOf}
+use Rattle.record_program.specs.declared.file.Records.{Ghosts as RecordsOf}
 use Rattle.run_rules.specs.declared.outcome.Report.{Report}
 use Rattle.run_rules.specs.declared.outcome.RunFault.{RunFault}
 use Rattle.run_rules.specs.declared.setting.Options.{Options}
-use Rattle.run_rules.specs.Recorded.{Line}
 use Rattle.workflow_engine.specs.Blame.{BlamesRecord, IsHostsFault}
-use Rattle.workflow_engine.specs.Gains.{RunsOn}
+use Rattle.workflow_engine.specs.ByMap.{RunsByMap}
 use Rattle.process_machine.specs.declared.trouble.Hindrance.{Hindrance}
 use Rattle.run_facts.specs.Holding.{can_hold_files}
 use Rattle.run_facts.specs.declared.made_by.WorkTrouble.{WorkTrouble}
 use Rattle.cwl_program.specs.Caches.{archive_of, is_twofold, record_of}
 use Rattle.end_words.specs.Leaving.{left_of}
 use Rattle.cwl_program.specs.Paths.{IsAt, from_root}
+use Rattle.cwl_program.specs.Seen.{IsUnasked, Seen, new_memory, seen, seen_memory}
 use Rattle.program_words.specs.RunWords.{IsChosen, RunWish}
 use Rattle.cwl_program.specs.Sources.{IsAccepted, IsDocumentStop, IsInputs, IsInputsStop}
 use Rattle.end_words.specs.RunEnds.{run_exit}
@@ -29,16 +32,17 @@ use Rattle.end_words.specs.declared.exit.Fault.TheVariants as faults
 use Rattle.end_words.specs.declared.given.Given.{Given}
 use Rattle.end_words.specs.declared.given.Places.{Places}
 
--- the log of a host, and that of a record of which nothing was asked before, gained a run of this process on these inputs, where a fault is
--- the host's only if a call of it failed so, and the record's, as a note of it, only if its log has it, and the program ends as that run; the
--- record's log has these lines then
-pub data IsRanOver (process : Process) (inputs : Fields) (options : Options) (lines : List Line) : Exit → Type 0 where
-  ran : (before after : List Entry) (result : Result Report RunFault) → RunsOn before after [] lines process inputs options result →
-      IfErr result (IsHostsFault before after) → BlamesRecord [] lines result → IsRanOver process inputs options lines (run_exit after result)
+-- The log of a host, and that of a record, gained a run of this process on these inputs. What the record answered is by the rows that it held
+-- before, and it then holds what the commands made of them. A fault is the host's only if a call of it failed so, and the record's, as a note of
+-- it, only if its log has it. The program ends as that run.
+pub data IsRanOver (process : Process) (inputs : Fields) (options : Options) (old new : Seen) : Exit → Type 0 where
+  ran : (before after : List Entry) (result : Result Report RunFault) →
+      RunsByMap before after old.lines new.lines old.IsSound new.IsSound old.Holds new.Holds process inputs options result →
+      IfErr result (IsHostsFault before after) → BlamesRecord old.lines new.lines result → IsRanOver process inputs options old new (run_exit after result)
 
--- with some lines of the record
+-- over a record that is kept in memory alone
 abbrev pub IsRan : (process : Process) (inputs : Fields) (options : Options) → Exit → Type 0
-IsRan process inputs options exit = (lines : List Line) × IsRanOver process inputs options lines exit
+IsRan process inputs options exit = (new : MemoryState) × IsRanOver process inputs options (seen_memory new_memory) (seen_memory new) exit
 
 -- ---- what the words of `run` name, for a program that is called in the folder `here`
 
@@ -95,10 +99,9 @@ pub data IsUnready (here : Text) (words : RunWish) : Exit → Type 0 where
   no_record : (given : Given) (file : Text) (fault : RecordFault) → IsReady here words given → record_of words ≡ Some file →
       IsUnready here words (exits.Fault (faults.Unopened file fault))
 
--- or then the work folder can't be made, or last the output folder can't be used, which is looked at where an output can be or hold a File or
+-- then the work folder can't be made, or last the output folder can't be used, which is looked at where an output can be or hold a File or
 -- Directory
 pub data IsStopExit (here : Text) (words : RunWish) : Exit → Type 0 where
-  unready : {exit : Exit} → IsUnready here words exit → IsStopExit here words exit
   no_work : (given : Given) (why : WorkTrouble) → IsReady here words given →
       IsStopExit here words (exits.Fault (faults.Work (from_root here words.work) why))
   no_outdir : (given : Given) (why : Hindrance) → IsReady here words given → can_hold_files given.process ≡ true →
@@ -124,16 +127,21 @@ pub record IsAsked (here : Text) (words : RunWish) (path : Text) (options : Opti
   pub rate : IsChosen 1 1000000000000 100000 words.rate options.rate
   pub keep : options.keep ≡ is_some (archive_of words)
 
--- a run of the named process on the named inputs, or nothing to run; the work folder, where it stays; and the lines that the log of the
--- record has then, of which nothing was asked before
-pub data IsRunExit (words : RunWish) (path : Text) : (lines : List Line) → Exit → (left : Option Text) → Type 0 where
-  runs : {exit : Exit} {lines : List Line} (here : Text) (given : Given) (options : Options) → IsReady here words given →
-      IsAsked here words path options → IsRanOver given.process given.inputs options lines exit →
-      IsRunExit words path lines exit (left_of words exit (from_root here words.work))
-  stops : {exit : Exit} (here : Text) → IsStopExit here words exit → IsRunExit words path [] exit None
-  -- the name of the current folder can't be found
-  lost : IsRunExit words path [] (exits.Fault faults.Folder) None
+-- a run of the named process on the named inputs over this record, or none, and then the record was not asked; the work folder, where it stays
+pub data IsRunExit (words : RunWish) (path : Text) (old new : Seen) : Exit → (left : Option Text) → Type 0 where
+  runs : {exit : Exit} (here : Text) (given : Given) (options : Options) → IsReady here words given →
+      IsAsked here words path options → IsRanOver given.process given.inputs options old new exit →
+      IsRunExit words path old new exit (left_of words exit (from_root here words.work))
+  stops : {exit : Exit} (here : Text) → IsStopExit here words exit → IsUnasked old new → IsRunExit words path old new exit None
 
--- with some lines of the record
-abbrev pub IsEndOfRun : (words : RunWish) (path : Text) → Exit → (left : Option Text) → Type 0
-IsEndOfRun words path exit left = (lines : List Line) × IsRunExit words path lines exit left
+module _ {R K L : Type 0} (records : RecordsOf R K L) (rows : RowsOf K) (rt : R) where
+  -- How the words of `run` end the program: over the record that was opened of the file that they name, of which nothing was asked before, and
+  -- which is closed then; or where they name none over a new one that is kept in memory alone; or before there is a record.
+  pub data IsEndOfRun (words : RunWish) (path : Text) : Exit → (left : Option Text) → Type 0 where
+    in_file : {exit : Exit} {left : Option Text} (file : Text) (old new : K) (closed : L) → record_of words ≡ Some file → records.opens rt file old →
+        rows.log old ≡ [] → IsRunExit words path (seen rows old) (seen rows new) exit left → records.leaves new closed → IsEndOfRun words path exit left
+    in_memory : {exit : Exit} {left : Option Text} (new : MemoryState) → record_of words ≡ None →
+        IsRunExit words path (seen_memory new_memory) (seen_memory new) exit left → IsEndOfRun words path exit left
+    unready : {exit : Exit} (here : Text) → IsUnready here words exit → IsEndOfRun words path exit None
+    -- the name of the current folder can't be found
+    lost : IsEndOfRun words path (exits.Fault faults.Folder) None

@@ -1,11 +1,14 @@
 -- What the program writes to its two writers for these words and this `PATH`, and the status that it then answers.
-use Rattle.std.specs.Prelude.{◌≡◌, ◌≢◌, ⊤, ℕ, List, Bool, false, Option, None}
+use Rattle.std.specs.Prelude.{◌≡◌, ◌≢◌, ◌⊎◌, ⊤, ℕ, codes, List, Bool, false, Option, None}
 use Rattle.clap.specs.Words.{IsAmong, Text, fault_of}
 use Rattle.clap.specs.declared.error.ErrorKind.{ErrorKind}
 use Rattle.clap.specs.declared.error.ErrorKind.TheVariants.{DisplayHelp, DisplayVersion}
+use Rattle.job_rows.specs.declared.record.Record.{Ghosts as RowsOf}
 use Rattle.record_program.specs.Endings as record_program
+use Rattle.record_program.specs.declared.file.Records.{Ghosts as RecordsOf}
 use Rattle.record_program.specs.declared.ending.Ending.{Ending}
 use Rattle.program_words.specs.CommandLine.{Asks, command_line, wish_of}
+use Rattle.program_words.specs.RecordWords.{RecordWish, wish_of_record}
 use Rattle.program_words.specs.RunWords.{RunWish, wish_of_run}
 use Rattle.program_words.specs.declared.command.Choice.{Choice}
 use Rattle.program_words.specs.declared.command.Choice.TheVariants.{Demo, Check, Run, Plan, Record}
@@ -18,28 +21,35 @@ use Rattle.end_words.specs.Told.{Held, Says}
 use Rattle.end_words.specs.declared.exit.Exit.{Exit}
 use Rattle.end_words.specs.declared.exit.Exit.TheVariants.{Record as Listed, Fault}
 use Rattle.end_words.specs.declared.exit.Fault.TheVariants as faults
+use Rattle.cwl_program.specs.Caches.{within}
 use Rattle.cwl_program.specs.Certificates.{IsCheck}
 use Rattle.cwl_program.specs.Demo.{IsDemoExit}
 use Rattle.cwl_program.specs.Plans.{IsEndOfPlan}
 use Rattle.cwl_program.specs.Runs.{IsEndOfRun}
 use Rattle.cwl_program.specs.Showings.{IsEndOfShowing}
 
--- a record's command ends the program in its own way
-pub data IsRecordExit : Exit → Type 0 where
-  shows : (ending : Ending) → record_program.IsEnding ending → IsRecordExit (Listed ending)
+-- the file of the record that is named, or that of the cache which is named
+abbrev pub IsRecordFile : (name file : Text) → Type 0
+IsRecordFile name file = (file ≡ name) ⊎ (file ≡ within name (codes "jobs.db"))
 
--- a run, or what is shown in place of one, which leaves nothing
-abbrev pub IsEndOfWords : Shows → RunWish → (path : Text) → Exit → (left : Option Text) → Type 0
-IsEndOfWords Outputs words path exit left = IsEndOfRun words path exit left
-IsEndOfWords other words path exit left = IsEndOfShowing words path exit × (left ≡ None)
+module _ {R K L : Type 0} (records : RecordsOf R K L) (rows : RowsOf K) (rt : R) where
+  -- the command of a record ends the program in its own way, on the file that is named
+  pub data IsRecordExit (wish : RecordWish) : Exit → Type 0 where
+    shows : (file : Text) (ending : Ending) → IsRecordFile wish.file file → record_program.IsEnding ending →
+        records.ends rt file wish.forget ending → IsRecordExit wish (Listed ending)
 
--- what the choice comes to, with this `PATH`, and the work folder, where it stays
-abbrev pub IsEndOf : (path : Text) → Choice → Exit → (left : Option Text) → Type 0
-IsEndOf path (Demo explains) exit left = IsDemoExit path exit × (left ≡ None)
-IsEndOf path (Check file explains) exit left = IsCheck file.now exit × (left ≡ None)
-IsEndOf path (Run words) exit left = IsEndOfWords words.shows (wish_of_run words) path exit left
-IsEndOf path (Plan words) exit left = IsEndOfPlan (wish_of_run words.run) words.dot path exit × (left ≡ None)
-IsEndOf path (Record words) exit left = IsRecordExit exit × (left ≡ None)
+  -- a run, or what is shown in place of one, which leaves nothing
+  abbrev pub IsEndOfWords : Shows → RunWish → (path : Text) → Exit → (left : Option Text) → Type 0
+  IsEndOfWords Outputs words path exit left = IsEndOfRun records rows rt words path exit left
+  IsEndOfWords other words path exit left = IsEndOfShowing words path exit × (left ≡ None)
+
+  -- what the choice comes to, with this `PATH`, and the work folder, where it stays
+  abbrev pub IsEndOf : (path : Text) → Choice → Exit → (left : Option Text) → Type 0
+  IsEndOf path (Demo explains) exit left = IsDemoExit path exit × (left ≡ None)
+  IsEndOf path (Check file explains) exit left = IsCheck file.now exit × (left ≡ None)
+  IsEndOf path (Run words) exit left = IsEndOfWords words.shows (wish_of_run words) path exit left
+  IsEndOf path (Plan words) exit left = IsEndOfPlan (wish_of_run words.run) words.dot path exit × (left ≡ None)
+  IsEndOf path (Record words) exit left = IsRecordExit (wish_of_record words) exit × (left ≡ None)
 
 -- whether the choice asks for words on what went wrong
 abbrev pub asks_why : Choice → Bool
@@ -54,16 +64,17 @@ abbrev pub telling_of : Choice → Telling
 telling_of (Run words) = words.telling
 telling_of choice = Nothing
 
--- the end that these words lead to with this `PATH`, the work folder that it leaves, whether it is to be explained, and how jobs are told
--- of on the way
-pub data LeadsTo (words : List Text) (path : Text) : Exit → (left : Option Text) → Bool → Telling → Type 0 where
-  chooses : {exit : Exit} {left : Option Text} (choice : Choice) → Asks words (wish_of choice) → IsEndOf path choice exit left →
-      LeadsTo words path exit left (asks_why choice) (telling_of choice)
-  -- memory ran out on the way to that end
-  out_of_memory : (choice : Choice) → Asks words (wish_of choice) →
-      LeadsTo words path (Fault faults.OutOfMemory) None (asks_why choice) (telling_of choice)
-  -- or before the words were read
-  unread : LeadsTo words path (Fault faults.OutOfMemory) None false Nothing
+module _ {R K L : Type 0} (records : RecordsOf R K L) (rows : RowsOf K) (rt : R) where
+  -- the end that these words lead to with this `PATH`, the work folder that it leaves, whether it is to be explained, and how jobs are told
+  -- of on the way
+  pub data LeadsTo (words : List Text) (path : Text) : Exit → (left : Option Text) → Bool → Telling → Type 0 where
+    chooses : {exit : Exit} {left : Option Text} (choice : Choice) → Asks words (wish_of choice) → IsEndOf records rows rt path choice exit left →
+        LeadsTo words path exit left (asks_why choice) (telling_of choice)
+    -- memory ran out on the way to that end
+    out_of_memory : (choice : Choice) → Asks words (wish_of choice) →
+        LeadsTo words path (Fault faults.OutOfMemory) None (asks_why choice) (telling_of choice)
+    -- or before the words were read
+    unread : LeadsTo words path (Fault faults.OutOfMemory) None false Nothing
 
 -- what the errors take before the end is said: nothing where no words want the jobs to be told of
 abbrev pub IsRunTold : Telling → (err err_run : Held) → Type 0
@@ -83,12 +94,13 @@ pub data Explains (kind : ErrorKind) (out out_new err err_new : Held) : ℕ → 
   -- a write failed
   unwritten : Explains kind out out_new err err_new 3
 
--- what is written and answered for these words and this `PATH`
-pub data Tells (words : List Text) (path : Text) (out out_new err err_new : Held) (status : ℕ) : Type 0 where
-  -- the words lead to this end, before which a run may have told of its jobs
-  ends : (exit : Exit) (left : Option Text) (savings : Option Savings) (explains : Bool) (telling : Telling) (err_run : Held) →
-      LeadsTo words path exit left explains telling → IsRunTold telling err err_run →
-      Says exit left savings explains out out_new err_run err_new status → Tells words path out out_new err err_new status
-  -- the words ask for help, or are refused, by a kind that they may be refused by
-  explains : (kind : ErrorKind) → IsAmong kind (fault_of command_line words) →
-      Explains kind out out_new err err_new status → Tells words path out out_new err err_new status
+module _ {R K L : Type 0} (records : RecordsOf R K L) (rows : RowsOf K) (rt : R) where
+  -- what is written and answered for these words and this `PATH`, where the runtime has these records
+  pub data Tells (words : List Text) (path : Text) (out out_new err err_new : Held) (status : ℕ) : Type 0 where
+    -- the words lead to this end, before which a run may have told of its jobs
+    ends : (exit : Exit) (left : Option Text) (savings : Option Savings) (explains : Bool) (telling : Telling) (err_run : Held) →
+        LeadsTo records rows rt words path exit left explains telling → IsRunTold telling err err_run →
+        Says exit left savings explains out out_new err_run err_new status → Tells words path out out_new err err_new status
+    -- the words ask for help, or are refused, by a kind that they may be refused by
+    explains : (kind : ErrorKind) → IsAmong kind (fault_of command_line words) →
+        Explains kind out out_new err err_new status → Tells words path out out_new err err_new status

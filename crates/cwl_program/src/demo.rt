@@ -65,7 +65,11 @@ fn on_process(alloc: Global, process: Process, path: &str) -> Result<Exit, Alloc
 {
     match inputs_of(alloc) {
         Ok(inputs) => {
-            let given = Given { process, inputs };
+            let given = Given {
+                process,
+                inputs,
+                files: Items::new(alloc),
+            };
             let exit = in_world(alloc, &given, path);
             mem::drop(given);
             exit

@@ -1,9 +1,10 @@
 ghost use Rattle.std.specs.Prelude.{◌≡◌, ◌≢◌, None, Ok, IfOk, IfErr, OnOk, OnErr, map, string_bytes};
 ghost use Rattle.clap.specs.Words.{HasKind, fault_of, kind_of};
 ghost use Rattle.program_words.specs.CommandLine.{Asks, command_line};
+ghost use Rattle.program_words.specs.RecordWords.{wish_of_record};
 ghost use Rattle.program_words.specs.RunWords.{wish_of_run};
 ghost use Rattle.end_words.specs.Told.{IsTold, Says};
-ghost use Rattle.cwl_program.specs.Tells.{Explains, IsEndOf, IsEndOfWords, IsRecordExit, IsRunTold, LeadsTo, Tells, asks_why, telling_of};
+ghost use Rattle.cwl_program.specs.Tells.{Explains, IsEndOf, IsEndOfWords, IsRecordExit, IsRecordFile, IsRunTold, LeadsTo, Tells, asks_why, telling_of};
 
 use crate::caches::{RECORD, within};
 use crate::certificate::exit_of_check;
@@ -11,6 +12,7 @@ use crate::demo::exit_of_demo;
 use crate::plan::end_of_plan;
 use crate::run::end_of_process;
 use crate::showing::end_of_showing;
+use crate::standard_output::StandardOutput;
 use crate::usual_words::{answer_words, processors_of};
 use clap::Error;
 use clap::error::ErrorKind;
@@ -25,7 +27,7 @@ use program_words::{
 use record_program::{Ending, Records};
 use std::alloc::{AllocError, Global};
 use std::env::VarError;
-use std::io::{IsTerminal, Write};
+use std::io::{IsTerminal, Stdout, Write};
 use std::process::{ExitCode, Stdio};
 use std::rt::Env;
 use std::{env, fs, io, mem};
@@ -44,12 +46,18 @@ pub fn program(rt: HostRuntime) -> ExitCode {
             &rt,
             words.as_slice(),
             path.as_str(),
-            &mut rt.stdout(),
+            &mut output_of(&rt),
             &mut rt.stderr(),
         ),
         Err(error) => unstarted(&error, &mut rt.stderr()),
     };
     ExitCode::from(status)
+}
+
+fn output_of(rt: &HostRuntime) -> StandardOutput<Stdout> {
+    let out = rt.stdout();
+    let is_terminal = out.is_terminal();
+    StandardOutput::new(rt.alloc(), out, is_terminal)
 }
 
 // The words and `PATH`, which is empty if it is absent or no UTF-8.
@@ -108,8 +116,9 @@ pub fn main_run<R: World + Env + Input + Records, O: Write, E: Write>(
 ) -> u8
 where
     R::File: Into<Stdio>,
-    ensures { Tells (map (λ word. string_bytes word) words.now) path.now (O.contents out.old)
-        (O.contents out.new) (E.contents err.old) (E.contents err.new) result }
+    ensures { Tells R.Records R.Kept.Record rt.now (map (λ word. string_bytes word) words.now)
+        path.now (O.contents out.old) (O.contents out.new) (E.contents err.old)
+        (E.contents err.new) result }
 {
     match end_of(rt, words, path, err) {
         Ok(end) => {
@@ -188,7 +197,8 @@ fn end_of<R: World + Env + Input + Records, E: Write>(
 ) -> Result<End, Error>
 where
     R::File: Into<Stdio>,
-    ensures ok { IfOk result (λ end. LeadsTo (map (λ word. string_bytes word) words.now) path.now
+    ensures ok { IfOk result (λ end. LeadsTo R.Records R.Kept.Record rt.now
+        (map (λ word. string_bytes word) words.now) path.now
         end.run.exit end.run.left end.explains end.telling) }
     ensures told { IfOk result (λ end. IsRunTold end.telling (E.contents err.old)
         (E.contents err.new)) }
@@ -221,7 +231,8 @@ fn end_of_choice<R: World + Env + Input + Records, E: Write>(
 ) -> Result<RunEnd, AllocError>
 where
     R::File: Into<Stdio>,
-    ensures end { IfOk result (λ end. IsEndOf path.now choice.now end.exit end.left) }
+    ensures end { IfOk result (λ end. IsEndOf R.Records R.Kept.Record rt.now path.now choice.now
+        end.exit end.left) }
     ensures told { IsRunTold (telling_of choice.now) (E.contents err.old) (E.contents err.new) }
 {
     match choice {
@@ -242,8 +253,8 @@ fn end_of_words<R: World + Env + Input + Records, E: Write>(
 ) -> Result<RunEnd, AllocError>
 where
     R::File: Into<Stdio>,
-    ensures end { IfOk result (λ end. IsEndOfWords words.now.shows (wish_of_run words.now) path.now
-        end.exit end.left) }
+    ensures end { IfOk result (λ end. IsEndOfWords R.Records R.Kept.Record rt.now words.now.shows
+        (wish_of_run words.now) path.now end.exit end.left) }
     ensures told { IsRunTold words.now.telling (E.contents err.old) (E.contents err.new) }
 {
     match words.shows {
@@ -262,7 +273,7 @@ fn bare(alloc: Global, exit: Result<Exit, AllocError>) -> Result<RunEnd, AllocEr
 
 #[tactic(auto, using(crate::specs::Tells::shows))]
 fn exit_of_record<R: World + Records>(rt: &R, words: &RecordWords) -> Result<Exit, AllocError>
-    ensures { IfOk result IsRecordExit }
+    ensures { IfOk result (IsRecordExit R.Records R.Kept.Record rt.now (wish_of_record words.now)) }
 {
     let file = record_at(rt, words.file)?;
     let ending = rt.record_ending(file.as_str(), words.forget);
@@ -271,7 +282,9 @@ fn exit_of_record<R: World + Records>(rt: &R, words: &RecordWords) -> Result<Exi
 }
 
 /// The file of the record that is named: of a folder, that of the cache which it is.
-fn record_at<R: World>(rt: &R, name: &str) -> Result<Text, AllocError> {
+fn record_at<R: World>(rt: &R, name: &str) -> Result<Text, AllocError>
+    ensures { IfOk result (IsRecordFile name.now) }
+{
     match fs::metadata(rt, name) {
         Ok(metadata) if metadata.is_dir() => within(rt.alloc(), name, RECORD),
         _ => Text::from_text(rt.alloc(), name),

@@ -3,24 +3,25 @@ ghost use Rattle.std.specs.Prelude.{◌≡◌, [], IfOk};
 ghost use Rattle.run_core.specs.Limits.{IsWithinLimits};
 ghost use Rattle.program_words.specs.RunWords.{wish_of_run};
 ghost use Rattle.cwl_program.specs.Runs.{AreNamed, IsAsked, IsReady, IsRunExit};
+ghost use Rattle.cwl_program.specs.Seen.{seen};
 ghost use Rattle.cwl_program.specs.Tells.{IsRunTold};
 
 use crate::caches::keeps_archive;
 use crate::on_machine::with_options;
 use crate::outdir::{outdir_for, without_outdir};
-use crate::work_folder::{leave, mark_made, without_work};
+use crate::work_folder::{leave, make_work, without_work};
 use end_words::{Call, Given, Places, RunEnd};
 use job_rows::Record;
 use plain_data::Text;
 use process_machine::World;
-use program_words::{load_base_of, load_rate_of, retries_of, slots_of};
+use program_words::{RunWords, load_base_of, load_rate_of, retries_of, slots_of};
 use run_core::Options;
 use std::alloc::{AllocError, Global};
-use std::fs;
 use std::io::Write;
 use std::process::Stdio;
+use std::{fs, mem};
 
-/// Makes the work folder, runs over a record of which nothing was asked, and removes the folder if that is possible, unless it is to stay.
+/// Makes the work folder, runs over a record, and removes the folder if that is possible, unless it is to stay.
 pub fn on_disk<R: World, K: Record, E: Write>(
     rt: &R,
     given: &Given,
@@ -33,20 +34,33 @@ where
     R::File: Into<Stdio>,
     requires ready { IsReady call.now.here.now (wish_of_run call.now.words.now) given.now }
     requires named { AreNamed call.now.here.now (wish_of_run call.now.words.now) places.now }
-    requires fresh { K.log rows.old ≡ [] }
     ensures told { IsRunTold call.now.words.now.telling (E.contents err.old) (E.contents err.new) }
     ensures end { IfOk result (λ end. IsRunExit (wish_of_run call.now.words.now) call.now.path.now
-        (K.log rows.new) end.exit end.left) }
+        (seen K.Record rows.old) (seen K.Record rows.new) end.exit end.left) }
 {
-    match fs::create_dir(rt, places.work.as_str()) {
-        Ok(()) => {
-            mark_made(rt, &places.work);
+    match make_work(rt, places) {
+        Ok(opened) => {
             let end = in_work(rt, given, places, call, rows, err);
-            leave(rt, &places.work, call.words, &end);
-            end
+            mem::drop(opened);
+            match end {
+                Ok(mut end) => {
+                    leave(rt, &places.work, end.left.is_some(), &mut end.notes);
+                    Ok(end)
+                }
+                Err(error) => {
+                    leave_unsaid(rt, &places.work, call.words);
+                    Err(error)
+                }
+            }
         }
-        Err(error) => without_work(rt, error.kind(), &places.work),
+        Err(trouble) => without_work(rt, trouble, &places.work),
     }
+}
+
+// If memory ran out at the end the work folder stays if that was asked for.
+fn leave_unsaid<R: World>(rt: &R, work: &Text, words: &RunWords) {
+    let stays = words.keep || words.keep_failed;
+    leave(rt, work, stays, &mut Vec::new(rt.alloc()));
 }
 
 /// Runs if the output folder can be used. One that was made, and into which nothing was delivered, is removed again.
@@ -62,10 +76,9 @@ where
     R::File: Into<Stdio>,
     requires ready { IsReady call.now.here.now (wish_of_run call.now.words.now) given.now }
     requires named { AreNamed call.now.here.now (wish_of_run call.now.words.now) places.now }
-    requires fresh { K.log rows.old ≡ [] }
     ensures told { IsRunTold call.now.words.now.telling (E.contents err.old) (E.contents err.new) }
     ensures end { IfOk result (λ end. IsRunExit (wish_of_run call.now.words.now) call.now.path.now
-        (K.log rows.new) end.exit end.left) }
+        (seen K.Record rows.old) (seen K.Record rows.new) end.exit end.left) }
 {
     match outdir_for(rt, &given.process, &places.outdir) {
         Ok(is_new) => {
@@ -91,10 +104,9 @@ where
     R::File: Into<Stdio>,
     requires ready { IsReady call.now.here.now (wish_of_run call.now.words.now) given.now }
     requires named { AreNamed call.now.here.now (wish_of_run call.now.words.now) places.now }
-    requires fresh { K.log rows.old ≡ [] }
     ensures told { IsRunTold call.now.words.now.telling (E.contents err.old) (E.contents err.new) }
     ensures end { IfOk result (λ end. IsRunExit (wish_of_run call.now.words.now) call.now.path.now
-        (K.log rows.new) end.exit end.left) }
+        (seen K.Record rows.old) (seen K.Record rows.new) end.exit end.left) }
 {
     let options = options_of(rt.alloc(), places, call)?;
     let end = with_options(rt, given, options, places, call.words, rows, err)?;

@@ -2,7 +2,7 @@
 
 use command_line::Launch;
 use cwl_value::JobPlace;
-use end_words::place_in;
+use end_words::{Misses, Remembered, place_in};
 use job_rows::Row;
 use plain_data::{Keyed, Text};
 use proc_host::{ChildEnd, HostAnswer, HostFault, HostRequest};
@@ -13,6 +13,9 @@ use std::rt::Clock;
 use std::time::Instant;
 use workflow_engine::Watch;
 
+/// How many files of rows are kept.
+const FILES_KEPT: usize = 4_096;
+
 /// What of an earlier run is asked for, and which document is run on which inputs.
 #[derive(Clone, Copy, Debug, Drop)]
 pub struct Memory<'a> {
@@ -20,6 +23,10 @@ pub struct Memory<'a> {
     pub document: &'a str,
     /// The name of the input object's file, if it can be read again.
     pub inputs: Option<&'a str>,
+    /// The name of the record's file, or of the cache that has it.
+    pub record: Option<&'a str>,
+    /// The name of the archive's folder, or of the cache that has it.
+    pub archive: Option<&'a str>,
     /// Whether a record or an archive is named, so that a job could be loaded.
     pub remembers: bool,
     /// Whether an archive is kept.
@@ -39,24 +46,57 @@ struct Running {
 /// What a run left that speaks of its jobs, whose places are JSON text.
 #[derive(Drop)]
 pub struct Traces<'a> {
-    /// The name of the document, if its hints are to be named.
-    pub document: Option<&'a str>,
-    /// The name of the input object's file, if its keys are to be named.
-    pub inputs: Option<&'a str>,
+    /// What is known of the call, if its files are to be named.
+    pub memory: Option<Memory<'a>>,
+    /// How many jobs there were, and how many of them have ended.
+    pub counts: Counts,
     // the last child of each job
     tickets: Keyed<u64>,
     // for the code of each fault of the host the first job that met it
     failures: Keyed<Text>,
+    // what the record had of jobs, while there is room for their files
+    rows: Keyed<Remembered>,
+    room: usize,
+    /// The jobs whose files could not be stored.
+    pub unstored: Misses,
+    /// The jobs whose rows the record refused, and the code of the last refusal.
+    pub unput: Misses,
+    pub refusal: &'static str,
 }
 
 impl<'a> Traces<'a> {
-    pub fn new(alloc: Global, document: Option<&'a str>, inputs: Option<&'a str>) -> Traces<'a> {
+    pub fn new(alloc: Global, memory: Option<Memory<'a>>) -> Traces<'a> {
         Traces {
-            document,
-            inputs,
+            memory,
+            counts: Counts {
+                done: 0,
+                known: 0,
+                running: 0,
+            },
             tickets: Keyed::new(alloc),
             failures: Keyed::new(alloc),
+            rows: Keyed::new(alloc),
+            room: FILES_KEPT,
+            unstored: Misses::none(),
+            unput: Misses::none(),
+            refusal: "",
         }
+    }
+
+    /// What the record had of the job at a place.
+    pub fn row_at(&self, place: &str) -> Option<&Remembered> {
+        self.rows.get(place)
+    }
+
+    fn keep_row(&mut self, alloc: Global, place: &Text, row: &Row) -> Result<(), AllocError> {
+        // (a row without files takes room too)
+        let size = row.files.len().saturating_add(1);
+        if size <= self.room {
+            self.room -= size;
+            let kept = Remembered::of(alloc, row)?;
+            self.rows.insert(place.copied(alloc)?, kept)?;
+        }
+        Ok(())
     }
 
     /// The ticket of the last child of the job at a place.
@@ -95,6 +135,8 @@ pub struct Jobs<'a, R: AllocGlobal + Clock, L: Listen> {
     loaded: u64,
     // what it took to compute the jobs that this run did not compute
     gained: u64,
+    // how many jobs have a row from this run, with their files if an archive is kept
+    kept: u64,
     // how many files and folders go to the output folder
     delivered: u64,
     // whether nothing was left out
@@ -116,10 +158,11 @@ impl<'a, R: AllocGlobal + Clock, L: Listen> Jobs<'a, R, L> {
             altered: Keyed::new(alloc),
             fetched: None,
             running: Vec::new(alloc),
-            traces: Traces::new(alloc, Some(memory.document), memory.inputs),
+            traces: Traces::new(alloc, Some(memory)),
             done: Keyed::new(alloc),
             loaded: 0,
             gained: 0,
+            kept: 0,
             delivered: 0,
             is_whole: true,
         }
@@ -155,7 +198,17 @@ impl<'a, R: AllocGlobal + Clock, L: Listen> Jobs<'a, R, L> {
             gained: self.gained,
             delivered: self.delivered,
             could_load: self.memory.remembers,
+            kept: self.kept_if_not_all(),
         })
+    }
+
+    // How many jobs were kept, if one that was to be kept couldn't be.
+    fn kept_if_not_all(&self) -> Option<u64> {
+        if self.traces.unstored.are_some() || self.traces.unput.are_some() {
+            Some(self.kept)
+        } else {
+            None
+        }
     }
 
     // The milliseconds since the start of the run.
@@ -225,6 +278,9 @@ impl<'a, R: AllocGlobal + Clock, L: Listen> Jobs<'a, R, L> {
 
     // Keeps the first job whose call failed so.
     fn note_failure(&mut self, place: &JobPlace, fault: HostFault) -> Result<(), AllocError> {
+        if fault == HostFault::Store {
+            self.traces.unstored.add(self.alloc, place)?;
+        }
         if self.traces.failures.contains(fault.code()) {
             return Ok(());
         }
@@ -288,8 +344,28 @@ impl<'a, R: AllocGlobal + Clock, L: Listen> Jobs<'a, R, L> {
                 self.recall(place, key, row)
             }
             (RecordRequest::DropArchive(key), _) => self.note_loss(key),
+            (RecordRequest::Put(row), _) => {
+                self.settle()?;
+                self.note_put(place, row, answer)
+            }
             _ => self.settle(),
         }
+    }
+
+    fn note_put(
+        &mut self,
+        place: &JobPlace,
+        row: &Row,
+        answer: &RecordAnswer,
+    ) -> Result<(), AllocError> {
+        if let RecordAnswer::Refused(refusal) = answer {
+            self.traces.refusal = refusal.code();
+            return self.traces.unput.add(self.alloc, place);
+        }
+        if row.archived || !self.memory.keeps {
+            self.kept = self.kept.saturating_add(1);
+        }
+        Ok(())
     }
 
     fn recall(
@@ -299,6 +375,9 @@ impl<'a, R: AllocGlobal + Clock, L: Listen> Jobs<'a, R, L> {
         row: &Option<Row>,
     ) -> Result<(), AllocError> {
         let place = place_in(self.alloc, place)?;
+        if let Some(row) = row {
+            self.traces.keep_row(self.alloc, &place, row)?;
+        }
         let recalled = recalled_of(key.copied(self.alloc)?, row);
         self.recalled.insert(place, recalled)?;
         Ok(())
@@ -340,11 +419,13 @@ impl<R: AllocGlobal + Clock, L: Listen> Watch for Jobs<'_, R, L> {
         self.known = known;
         let noted = self.note_question(place, request);
         self.note(noted);
+        self.traces.counts = self.counts();
     }
 
     fn answers(&mut self, place: &JobPlace, answer: &HostAnswer) {
         let noted = self.note_answer(place, answer);
         self.note(noted);
+        self.traces.counts = self.counts();
     }
 
     fn recalls(
@@ -357,6 +438,7 @@ impl<R: AllocGlobal + Clock, L: Listen> Watch for Jobs<'_, R, L> {
         self.known = known;
         let noted = self.note_record(place, request, answer);
         self.note(noted);
+        self.traces.counts = self.counts();
     }
 }
 

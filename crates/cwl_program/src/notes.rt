@@ -5,8 +5,9 @@ use collected_outputs::OutputFault;
 use command_line::{BuildFault, Launch};
 use cwl_process::Tool;
 use end_words::{
-    Exit, Fault, Given, add_listing, add_obstacle, add_output, add_remarks, add_start,
-    hindrance_words, misfit_lines, missing_lines, secondary_lines, step_lines, tool_lines, tool_of,
+    Exit, Fault, Given, add_ending, add_listing, add_mismatch, add_obstacle, add_output,
+    add_remarks, add_start, add_tally, add_uncopied, add_unput, add_unstored, misfit_lines,
+    missing_lines, secondary_lines, step_lines, tool_lines, tool_of,
 };
 use job_graph::Cause as NoValue;
 use plain_data::Text;
@@ -14,7 +15,8 @@ use proc_host::{ChildEnd, Entry, HostFault};
 use process_machine::{Machine, World, last_lines, messages_file};
 use program_words::{ending, line_of};
 use run_core::{Cause, CollectCause};
-use run_facts::{end_of, launch_with, moves_in};
+use run_facts::{end_of, launch_with, listing_of, moves_in};
+use staging::Found;
 use std::alloc::{AllocError, Global};
 
 /// The place of the process itself, as JSON text.
@@ -45,10 +47,29 @@ fn all_lines<R: World>(
     exit: &Exit,
 ) -> Result<Vec<String>, AllocError> {
     let mut lines = lines_on(rt, host, given, traces, exit)?;
-    if let Some(document) = traces.document {
-        add_remarks(rt, given, document, traces.inputs, &mut lines)?;
+    add_unkept(rt.alloc(), host, traces, &mut lines)?;
+    if let Some(memory) = traces.memory {
+        if matches!(exit, Exit::Permanent(_, _) | Exit::Temporary(_)) {
+            add_tally(rt.alloc(), traces.counts, memory.keeps, &mut lines)?;
+        }
+        add_remarks(rt, given, memory.document, memory.inputs, &mut lines)?;
     }
     Ok(lines)
+}
+
+// Adds which jobs could not be kept for later runs, and why.
+fn add_unkept<R: World>(
+    alloc: Global,
+    host: &Machine<R>,
+    traces: &Traces<'_>,
+    lines: &mut Vec<String>,
+) -> Result<(), AllocError> {
+    let archive = match &traces.memory {
+        Some(memory) => memory.archive,
+        None => None,
+    };
+    add_unstored(alloc, &traces.unstored, archive, host.unstored(), lines)?;
+    add_unput(alloc, &traces.unput, traces.refusal, lines)
 }
 
 fn lines_on<R: World>(
@@ -81,8 +102,9 @@ fn lines_on<R: World>(
         Exit::Permanent(place, Cause::Exit(_) | Cause::Collect(_)) | Exit::Temporary(place) => {
             job_lines(rt, host.log(), traces.ticket_at(place.as_str()))
         }
+        Exit::Mismatch(place) => mismatch_lines(rt, host.log(), traces, place.as_str()),
         Exit::Fault(Fault::Host(HostFault::Deliver, _)) => delivery_lines(rt.alloc(), host),
-        Exit::Fault(Fault::Host(fault, _)) => call_lines(rt.alloc(), host, traces, *fault),
+        Exit::Fault(Fault::Host(fault, _)) => call_lines(rt, host, traces, *fault),
         _ => Ok(Vec::new(rt.alloc())),
     }
 }
@@ -91,19 +113,32 @@ fn lines_on<R: World>(
 
 // The place of the job that it was for, and what hindered it.
 fn call_lines<R: World>(
-    alloc: Global,
+    rt: &R,
     host: &Machine<R>,
     traces: &Traces<'_>,
     fault: HostFault,
 ) -> Result<Vec<String>, AllocError> {
+    let alloc = rt.alloc();
     let mut lines = Vec::new(alloc);
     add_place(alloc, traces.failed_at(fault), &mut lines)?;
     match fault {
-        HostFault::Start => add_start(alloc, host.log(), &mut lines)?,
+        HostFault::Start => add_start(rt, host.log(), host.unstarted(), &mut lines)?,
+        HostFault::Stage => add_unstaged(alloc, host, &mut lines)?,
         HostFault::Scan => add_obstacle(alloc, host.unlisted(), &mut lines)?,
         _ => {}
     }
     Ok(lines)
+}
+
+fn add_unstaged<R: World>(
+    alloc: Global,
+    host: &Machine<R>,
+    lines: &mut Vec<String>,
+) -> Result<(), AllocError> {
+    match host.undelivered() {
+        Some(missed) => add_uncopied(alloc, missed, lines),
+        None => Ok(()),
+    }
 }
 
 // Adds the place of a job, if that is not the process itself.
@@ -172,6 +207,31 @@ fn output_lines<R: World>(
     Ok(lines)
 }
 
+// The same, which of its files are not those of its row, and how that is forgotten.
+fn mismatch_lines<R: World>(
+    rt: &R,
+    log: &[Entry],
+    traces: &Traces<'_>,
+    place: &str,
+) -> Result<Vec<String>, AllocError> {
+    let ticket = traces.ticket_at(place);
+    let mut lines = job_lines(rt, log, ticket)?;
+    if let Some(row) = traces.row_at(place) {
+        let record = match &traces.memory {
+            Some(memory) => memory.record,
+            None => None,
+        };
+        add_mismatch(rt.alloc(), row, left_by(log, ticket), record, &mut lines)?;
+    }
+    Ok(lines)
+}
+
+// What was in the output folder of a child.
+fn left_by<'a>(log: &'a [Entry], ticket: Option<&u64>) -> Option<&'a [Found]> {
+    let launch = launch_with(log, *ticket?)?;
+    listing_of(log, launch.dir.as_str())
+}
+
 fn child_lines<R: World>(
     rt: &R,
     launch: &Launch,
@@ -183,6 +243,7 @@ fn child_lines<R: World>(
     lines.push(format!(in alloc; "command: {command}")?)?;
     let (how, millis) = (ending(alloc, end.code)?, end.millis);
     lines.push(format!(in alloc; "ended: {how}, {millis} ms")?)?;
+    add_ending(alloc, end.code, &mut lines)?;
     add_messages(rt, launch, &mut lines)?;
     Ok(lines)
 }
@@ -217,9 +278,8 @@ fn delivery_lines<R: World>(alloc: Global, host: &Machine<R>) -> Result<Vec<Stri
     let Some(missed) = host.undelivered() else {
         return Ok(lines);
     };
-    let (target, why) = (&missed.target, hindrance_words(missed.why));
-    lines.push(format!(in alloc; "{target} is not written: {why}")?)?;
-    if let Some(source) = source_of(host.log(), target) {
+    add_uncopied(alloc, missed, &mut lines)?;
+    if let Some(source) = source_of(host.log(), &missed.target) {
         lines.push(format!(in alloc; "it lies at {source}")?)?;
     }
     Ok(lines)

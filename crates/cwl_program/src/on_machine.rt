@@ -2,11 +2,15 @@
 ghost use Rattle.std.specs.Prelude.{◌≡◌, [], None, Ok, IfOk};
 ghost use Rattle.run_core.specs.Limits.{IsWithinLimits};
 ghost use Rattle.workflow_check.specs.Checked.{fault_in};
+ghost use Rattle.program_words.specs.RunWords.{wish_of_run};
+ghost use Rattle.cwl_program.specs.Held.{IsHeld};
 ghost use Rattle.cwl_program.specs.Runs.{IsRanOver};
+ghost use Rattle.cwl_program.specs.Seen.{seen};
 ghost use Rattle.cwl_program.specs.Tells.{IsRunTold};
 
 use crate::caches::{keeps_archive, remembers};
 use crate::hearing::{Speaker, Voice};
+use crate::held::held_by;
 use crate::jobs::{Jobs, Memory, Traces};
 use crate::notes::notes_on;
 use crate::standard_input::file_of;
@@ -37,12 +41,11 @@ where
     R::File: Into<Stdio>,
     requires accepted { fault_in given.now.process ≡ None }
     requires limits { IsWithinLimits options }
-    requires fresh { K.log rows.old ≡ [] }
     ensures told { IsRunTold words.now.telling (E.contents err.old) (E.contents err.new) }
     ensures exit { IfOk result (λ end. IsRanOver given.now.process given.now.inputs options
-        (K.log rows.new) end.exit) }
+        (seen K.Record rows.old) (seen K.Record rows.new) end.exit) }
 {
-    match machine_of(rt, places, words.keep) {
+    match guarded_machine(rt, given, places, words) {
         Ok(host) => { told_of(rt, host, given, options, words, rows, err) }
         Err(error) => {
             mem::drop(options);
@@ -55,10 +58,29 @@ fn memory_of<'a>(words: &RunWords<'a>) -> Memory<'a> {
     Memory {
         document: words.document,
         inputs: file_of(words.inputs),
+        record: words.cache.or(words.record_file),
+        archive: words.cache.or(words.archive),
         remembers: remembers(words),
         keeps: keeps_archive(words),
         counts: remembers(words) || !matches!(words.telling, Telling::Nothing),
     }
+}
+
+/// A machine of a run, which replaces none of the files that the run reads or holds.
+fn guarded_machine<R: World>(
+    rt: &R,
+    given: &Given,
+    places: &Places,
+    words: &RunWords,
+) -> Result<Machine<R>, AllocError>
+    ensures idle { IfOk result (λ host. host.running ≡ []) }
+    ensures guarded { IfOk result (λ host. IsHeld (wish_of_run words.now) given.now.files
+        host.guarded) }
+{
+    let held = held_by(rt, given, words)?;
+    let mut host = machine_of(rt, places, words.keep)?;
+    host.guard(held);
+    Ok(host)
 }
 
 /// A machine that works in these places, and keeps the folders of its jobs or not.
@@ -99,10 +121,9 @@ where
     requires idle { host.running ≡ [] }
     requires accepted { fault_in given.now.process ≡ None }
     requires limits { IsWithinLimits options }
-    requires fresh { K.log rows.old ≡ [] }
     ensures told { IsRunTold words.now.telling (E.contents err.old) (E.contents err.new) }
     ensures exit { IfOk result (λ end. IsRanOver given.now.process given.now.inputs options
-        (K.log rows.new) end.exit) }
+        (seen K.Record rows.old) (seen K.Record rows.new) end.exit) }
 {
     match words.telling {
         Telling::Nothing => {
@@ -135,9 +156,8 @@ where
     requires idle { host.running ≡ [] }
     requires accepted { fault_in given.now.process ≡ None }
     requires limits { IsWithinLimits options }
-    requires fresh { K.log rows.old ≡ [] }
     ensures { IfOk result (λ end. IsRanOver given.now.process given.now.inputs options
-        (K.log rows.new) end.exit) }
+        (seen K.Record rows.old) (seen K.Record rows.new) end.exit) }
 {
     let (host, memory) = (Heard::new(host, Deaf), memory_of(words));
     let end = ended(rt, host, given, options, &mut teller, memory, rows);
@@ -169,9 +189,8 @@ where
     requires idle { host.running ≡ [] }
     requires accepted { fault_in given.now.process ≡ None }
     requires limits { IsWithinLimits options }
-    requires fresh { K.log rows.old ≡ [] }
     ensures { IfOk result (λ end. IsRanOver given.now.process given.now.inputs options
-        (K.log rows.new) end.exit) }
+        (seen K.Record rows.old) (seen K.Record rows.new) end.exit) }
 {
     let voice = RefCell::new(Voice::new(rt.alloc(), teller));
     let host = Heard::new(host, Speaker::new(&voice));
@@ -196,9 +215,8 @@ where
     requires idle { host.running ≡ [] }
     requires accepted { fault_in given.now.process ≡ None }
     requires limits { IsWithinLimits options }
-    requires fresh { K.log rows.old ≡ [] }
     ensures { IfOk result (λ end. IsRanOver given.now.process given.now.inputs options
-        (K.log rows.new) end.exit) }
+        (seen K.Record rows.old) (seen K.Record rows.new) end.exit) }
 {
     let mut jobs = Jobs::new(rt, listener, memory);
     let report = run(

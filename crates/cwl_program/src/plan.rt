@@ -16,8 +16,9 @@ use crate::run::{here_of, inputs_of, places_of, process_of, without_folder};
 use crate::run_record::without_record;
 use crate::standard_input::file_of;
 use document_links::Process;
-use end_words::{Call, Exit, Fault, Given, Places, RunEnd, stopped_run};
+use end_words::{Call, Exit, Fault, Given, Places, RunEnd, stopped_call, stopped_run};
 use job_rows::{MemoryRecord, Record};
+use plain_data::{Items, Text};
 use process_machine::{Machine, World};
 use program_words::PlanWords;
 use record_program::Records;
@@ -70,15 +71,20 @@ where
     if is_twofold(call.words) {
         return Ok(RunEnd::bare(rt.alloc(), Exit::Fault(Fault::Words)));
     }
-    match process_of(rt, call) {
-        Ok(process) => on_process(rt, process, call, dot),
-        Err(stop) => stopped_run(rt, stop, file_of(call.words.inputs)),
+    let mut files = Items::new(rt.alloc());
+    match process_of(rt, call, &mut files) {
+        Ok(process) => on_process(rt, process, files, call, dot),
+        Err(stop) => {
+            mem::drop(files);
+            stopped_call(rt, stop, call)
+        }
     }
 }
 
 fn on_process<R: World + Input + Records>(
     rt: &R,
     process: Process,
+    files: Items<Text>,
     call: &Call<'_>,
     dot: bool,
 ) -> Result<RunEnd, AllocError>
@@ -91,13 +97,18 @@ where
 {
     match inputs_of(rt, call) {
         Ok(inputs) => {
-            let given = Given { process, inputs };
+            let given = Given {
+                process,
+                inputs,
+                files,
+            };
             let end = over_record(rt, &given, call, dot);
             mem::drop(given);
             end
         }
         Err(stop) => {
             mem::drop(process);
+            mem::drop(files);
             stopped_run(rt, stop, file_of(call.words.inputs))
         }
     }
@@ -194,7 +205,8 @@ where
     match rt.open_record(file) {
         Ok(mut rows) => {
             let end = by_rows(rt, given, call, &mut rows, dot);
-            rt.close_record(rows);
+            let left = rt.close_record(rows);
+            mem::drop(left);
             end
         }
         Err(fault) => without_record(rt.alloc(), fault, file),
@@ -279,7 +291,7 @@ where
         looks.answers(),
         dot,
     );
-    let traces = Traces::new(rt.alloc(), None, None);
+    let traces = Traces::new(rt.alloc(), None);
     let end = noted(rt, &host, given, &traces, exit, None);
     mem::drop(traces);
     mem::drop(looks);

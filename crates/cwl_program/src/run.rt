@@ -18,8 +18,8 @@ use crate::standard_input::{bytes_of, file_of};
 use cwl_value::Value;
 use document_links::{Document, Process};
 use end_words::{
-    Call, Exit, Fault, Given, Places, RunEnd, Stop, bytes_of_file, reached_from, stopped_run,
-    unread,
+    Call, Exit, Fault, Given, Places, Reached, RunEnd, Stop, bytes_of_file, reached_from,
+    stopped_call, stopped_run, unread,
 };
 use plain_data::{Items, Keyed, Text};
 use process_machine::World;
@@ -46,8 +46,8 @@ pub fn end_of_process<R: World + Env + Input + Records, E: Write>(
 where
     R::File: Into<Stdio>,
     ensures told { IsRunTold words.now.telling (E.contents err.old) (E.contents err.new) }
-    ensures end { IfOk result (λ end. IsEndOfRun (wish_of_run words.now) path.now end.exit
-        end.left) }
+    ensures end { IfOk result (λ end. IsEndOfRun R.Records R.Kept.Record rt.now
+        (wish_of_run words.now) path.now end.exit end.left) }
 {
     match here_of(rt) {
         Ok(here) => {
@@ -89,8 +89,8 @@ fn end_of_call<R: World + Input + Records, E: Write>(
 where
     R::File: Into<Stdio>,
     ensures told { IsRunTold call.now.words.now.telling (E.contents err.old) (E.contents err.new) }
-    ensures end { IfOk result (λ end. IsEndOfRun (wish_of_run call.now.words.now) call.now.path.now
-        end.exit end.left) }
+    ensures end { IfOk result (λ end. IsEndOfRun R.Records R.Kept.Record rt.now
+        (wish_of_run call.now.words.now) call.now.path.now end.exit end.left) }
 {
     if is_twofold(call.words) {
         return Ok(RunEnd::bare(rt.alloc(), Exit::Fault(Fault::Words)));
@@ -106,27 +106,40 @@ fn end_of_document<R: World + Input + Records, E: Write>(
 where
     R::File: Into<Stdio>,
     ensures told { IsRunTold call.now.words.now.telling (E.contents err.old) (E.contents err.new) }
-    ensures end { IfOk result (λ end. IsEndOfRun (wish_of_run call.now.words.now) call.now.path.now
-        end.exit end.left) }
+    ensures end { IfOk result (λ end. IsEndOfRun R.Records R.Kept.Record rt.now
+        (wish_of_run call.now.words.now) call.now.path.now end.exit end.left) }
 {
-    match process_of(rt, call) {
-        Ok(process) => on_process(rt, process, call, err),
-        Err(stop) => stopped_run(rt, stop, file_of(call.words.inputs)),
+    let mut files = Items::new(rt.alloc());
+    match process_of(rt, call, &mut files) {
+        Ok(process) => on_process(rt, process, files, call, err),
+        Err(stop) => {
+            mem::drop(files);
+            stopped_call(rt, stop, call)
+        }
     }
 }
 
-/// Reads the document with all that it leads to.
-pub fn process_of<R: World>(rt: &R, call: &Call<'_>) -> Result<Process, Stop>
+/// Reads the document with all that it leads to, and tells the files of those.
+pub fn process_of<R: World>(
+    rt: &R,
+    call: &Call<'_>,
+    files: &mut Items<Text>,
+) -> Result<Process, Stop>
     ensures ok { IfOk result (IsNamedProcess call.now.here.now (wish_of_run call.now.words.now)) }
     ensures err { IfErr result
         (IsStop (IsNoProcess call.now.here.now (wish_of_run call.now.words.now))) }
 {
     let document = document_of(rt, call)?;
     let base = base_of(rt.alloc(), call.here, call.words.document)?;
-    process_at(rt, &document, &base)
+    process_at(rt, &document, &base, files)
 }
 
-fn process_at<R: World>(rt: &R, document: &Document, base: &Url) -> Result<Process, Stop>
+fn process_at<R: World>(
+    rt: &R,
+    document: &Document,
+    base: &Url,
+    files: &mut Items<Text>,
+) -> Result<Process, Stop>
     ensures ok { IfOk result (λ process. (docs : Documents)
         × IsAccepted document.now base.now docs process) }
     ensures err { IfErr result (IsStop (λ exit. (docs : Documents)
@@ -134,8 +147,19 @@ fn process_at<R: World>(rt: &R, document: &Document, base: &Url) -> Result<Proce
 {
     let reached = reached_from(rt, document, base)?;
     let process = accepted_of(rt.alloc(), document, base, &reached.docs, &reached.missed);
-    mem::drop(reached);
+    tell_files(reached, files);
     process
+}
+
+fn tell_files(reached: Reached, files: &mut Items<Text>) {
+    let Reached {
+        docs,
+        files: read,
+        missed,
+    } = reached;
+    mem::drop(docs);
+    mem::drop(missed);
+    mem::drop(mem::replace(files, read));
 }
 
 fn document_of<R: World>(rt: &R, call: &Call<'_>) -> Result<Document, Stop>
@@ -168,6 +192,7 @@ fn file_bytes<R: World>(rt: &R, file: &str) -> Result<Vec<u8>, Stop>
 fn on_process<R: World + Input + Records, E: Write>(
     rt: &R,
     process: Process,
+    files: Items<Text>,
     call: &Call<'_>,
     err: &mut E,
 ) -> Result<RunEnd, AllocError>
@@ -175,18 +200,23 @@ where
     R::File: Into<Stdio>,
     requires { IsNamedProcess call.now.here.now (wish_of_run call.now.words.now) process }
     ensures told { IsRunTold call.now.words.now.telling (E.contents err.old) (E.contents err.new) }
-    ensures end { IfOk result (λ end. IsEndOfRun (wish_of_run call.now.words.now) call.now.path.now
-        end.exit end.left) }
+    ensures end { IfOk result (λ end. IsEndOfRun R.Records R.Kept.Record rt.now
+        (wish_of_run call.now.words.now) call.now.path.now end.exit end.left) }
 {
     match inputs_of(rt, call) {
         Ok(inputs) => {
-            let given = Given { process, inputs };
+            let given = Given {
+                process,
+                inputs,
+                files,
+            };
             let end = in_places(rt, &given, call, err);
             mem::drop(given);
             end
         }
         Err(stop) => {
             mem::drop(process);
+            mem::drop(files);
             stopped_run(rt, stop, file_of(call.words.inputs))
         }
     }
@@ -237,8 +267,8 @@ where
     R::File: Into<Stdio>,
     requires { IsReady call.now.here.now (wish_of_run call.now.words.now) given.now }
     ensures told { IsRunTold call.now.words.now.telling (E.contents err.old) (E.contents err.new) }
-    ensures end { IfOk result (λ end. IsEndOfRun (wish_of_run call.now.words.now) call.now.path.now
-        end.exit end.left) }
+    ensures end { IfOk result (λ end. IsEndOfRun R.Records R.Kept.Record rt.now
+        (wish_of_run call.now.words.now) call.now.path.now end.exit end.left) }
 {
     let places = places_of(rt.alloc(), call)?;
     let end = with_record(rt, given, &places, call, err);

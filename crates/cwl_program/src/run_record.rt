@@ -31,8 +31,8 @@ where
     requires ready { IsReady call.now.here.now (wish_of_run call.now.words.now) given.now }
     requires named { AreNamed call.now.here.now (wish_of_run call.now.words.now) places.now }
     ensures told { IsRunTold call.now.words.now.telling (E.contents err.old) (E.contents err.new) }
-    ensures end { IfOk result (λ end. IsEndOfRun (wish_of_run call.now.words.now) call.now.path.now
-        end.exit end.left) }
+    ensures end { IfOk result (λ end. IsEndOfRun R.Records R.Kept.Record rt.now
+        (wish_of_run call.now.words.now) call.now.path.now end.exit end.left) }
 {
     match record_of(rt.alloc(), call.words)? {
         None => in_memory(rt, given, places, call, err),
@@ -44,7 +44,7 @@ where
     }
 }
 
-fn in_memory<R: World, E: Write>(
+fn in_memory<R: World + Records, E: Write>(
     rt: &R,
     given: &Given,
     places: &Places,
@@ -55,9 +55,10 @@ where
     R::File: Into<Stdio>,
     requires ready { IsReady call.now.here.now (wish_of_run call.now.words.now) given.now }
     requires named { AreNamed call.now.here.now (wish_of_run call.now.words.now) places.now }
+    requires unnamed { file_of_record (wish_of_run call.now.words.now) ≡ None }
     ensures told { IsRunTold call.now.words.now.telling (E.contents err.old) (E.contents err.new) }
-    ensures end { IfOk result (λ end. IsEndOfRun (wish_of_run call.now.words.now) call.now.path.now
-        end.exit end.left) }
+    ensures end { IfOk result (λ end. IsEndOfRun R.Records R.Kept.Record rt.now
+        (wish_of_run call.now.words.now) call.now.path.now end.exit end.left) }
 {
     let mut rows = MemoryRecord::new(rt.alloc());
     let end = on_disk(rt, given, places, call, &mut rows, err);
@@ -80,14 +81,15 @@ where
     requires named { AreNamed call.now.here.now (wish_of_run call.now.words.now) places.now }
     requires file { file_of_record (wish_of_run call.now.words.now) ≡ Some file.now }
     ensures told { IsRunTold call.now.words.now.telling (E.contents err.old) (E.contents err.new) }
-    ensures end { IfOk result (λ end. IsEndOfRun (wish_of_run call.now.words.now) call.now.path.now
-        end.exit end.left) }
+    ensures end { IfOk result (λ end. IsEndOfRun R.Records R.Kept.Record rt.now
+        (wish_of_run call.now.words.now) call.now.path.now end.exit end.left) }
 {
     make_cache(rt, call.words);
     match rt.open_record(file) {
         Ok(mut rows) => {
             let end = on_disk(rt, given, places, call, &mut rows, err);
-            rt.close_record(rows);
+            let left = rt.close_record(rows);
+            mem::drop(left);
             end
         }
         Err(fault) => without_record(rt.alloc(), fault, file),

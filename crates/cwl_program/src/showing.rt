@@ -10,7 +10,7 @@ use crate::run::{here_of, inputs_of, process_of, without_folder};
 use crate::standard_input::file_of;
 use crate::tool_command::exit_of_command;
 use document_links::Process;
-use end_words::{Call, Exit, Given, RunEnd, misfit_lines, of_failure, stopped_run};
+use end_words::{Call, Exit, Given, RunEnd, misfit_lines, of_failure, stopped_call, stopped_run};
 use job_graph::Cause as NoValue;
 use plain_data::{Items, Text};
 use process_machine::World;
@@ -51,15 +51,20 @@ fn end_of_call<R: World + Input>(rt: &R, call: &Call<'_>) -> Result<RunEnd, Allo
         call.now.path.now end.exit) }
     ensures left { IfOk result (λ end. end.left ≡ None) }
 {
-    match process_of(rt, call) {
-        Ok(process) => on_process(rt, process, call),
-        Err(stop) => stopped_run(rt, stop, None),
+    let mut files = Items::new(rt.alloc());
+    match process_of(rt, call, &mut files) {
+        Ok(process) => on_process(rt, process, files, call),
+        Err(stop) => {
+            mem::drop(files);
+            stopped_call(rt, stop, call)
+        }
     }
 }
 
 fn on_process<R: World + Input>(
     rt: &R,
     process: Process,
+    files: Items<Text>,
     call: &Call<'_>,
 ) -> Result<RunEnd, AllocError>
     requires { IsNamedProcess call.now.here.now (wish_of_run call.now.words.now) process }
@@ -69,13 +74,18 @@ fn on_process<R: World + Input>(
 {
     match inputs_of(rt, call) {
         Ok(inputs) => {
-            let given = Given { process, inputs };
+            let given = Given {
+                process,
+                inputs,
+                files,
+            };
             let end = of_given(rt.alloc(), &given, call);
             mem::drop(given);
             end
         }
         Err(stop) => {
             mem::drop(process);
+            mem::drop(files);
             stopped_run(rt, stop, file_of(call.words.inputs))
         }
     }

@@ -1,5 +1,6 @@
 //! Texts that are taken from standard input if `-` stands for it.
-ghost use Rattle.std.specs.Prelude.{◌≤◌, length, IfOk, IfErr};
+ghost use Rattle.std.specs.Prelude.{◌≡◌, ◌≤◌, length, IfOk, IfErr, option_map};
+ghost use Rattle.cwl_program.specs.Held as spec;
 ghost use Rattle.end_words.specs.Stops.{IsTrouble, most_bytes};
 
 use end_words::{NoBytes, bytes_of_file, bytes_of_input};
@@ -20,7 +21,10 @@ pub fn bytes_of<R: AllocGlobal + Files + Input>(rt: &R, name: &str) -> Result<Ve
 }
 
 /// The file of the inputs, if they are of one: it can be read again, and standard input can't.
-pub fn file_of<'a>(inputs: Option<&'a str>) -> Option<&'a str> {
+pub fn file_of<'a>(inputs: Option<&'a str>) -> Option<&'a str>
+    ensures { option_map (λ s. s.now) result
+        ≡ spec.file_of (option_map (λ s. s.now) inputs.entry) }
+{
     match inputs {
         Some(name) if name == INPUT => None,
         other => other,

@@ -1,19 +1,90 @@
 //! The mark of a work folder, and what it says if the folder is in the way.
 ghost use Rattle.std.specs.Prelude.{◌≡◌, None, IfOk};
 
-use end_words::{Exit, Fault, RunEnd, bytes_of_file};
+use end_words::{Exit, Fault, Places, RunEnd, bytes_of_file};
 use plain_data::Text;
 use process_machine::{World, remove_folder};
-use program_words::RunWords;
 use run_facts::{KEPT, WorkTrouble, mark_of, number_in, trouble_of};
-use std::alloc::AllocError;
+use std::alloc::{AllocError, Global};
+use std::fs::DirBuilder;
+use std::os::unix::fs::DirBuilderExt;
+use std::path::Path;
 use std::{fs, io, str};
 
 /// The file in a work folder that says which process made it.
 const MARK: &str = "made-by";
 
-/// Marks a work folder as made by this process, if that can be done.
-pub fn mark_made<R: World>(rt: &R, work: &Text) {
+/// Who else may look into a work folder: nobody, since private files are copied into it.
+const OWNER_ALONE: u32 = 0o700;
+
+/// Why there is no work folder.
+pub enum NoWork {
+    Refused(io::ErrorKind),
+    /// Results or stored files would be in it.
+    Around,
+}
+
+/// Makes the work folder, and marks it as made by this process. Where results or stored files would be in it, it is removed again: it does
+/// not outlive the run. So it is where it can't be opened.
+///
+/// What is opened is to be held until the folder is removed: that takes a file of the process's own to be open, and there may be room for no
+/// other.
+pub fn make_work<R: World>(rt: &R, places: &Places) -> Result<R::File, NoWork> {
+    if let Err(error) = own_folder(rt, &places.work) {
+        return Err(NoWork::Refused(error.kind()));
+    }
+    let made = opened_alone(rt, places);
+    match &made {
+        Ok(_) => mark_made(rt, &places.work),
+        Err(_) => {
+            let _removed = fs::remove_dir(rt, places.work.as_str());
+        }
+    }
+    made
+}
+
+fn opened_alone<R: World>(rt: &R, places: &Places) -> Result<R::File, NoWork> {
+    if is_around(rt, places) {
+        return Err(NoWork::Around);
+    }
+    match fs::open(rt, places.work.as_str()) {
+        Ok(opened) => Ok(opened),
+        Err(error) => Err(NoWork::Refused(error.kind())),
+    }
+}
+
+fn own_folder<R: World>(rt: &R, work: &Text) -> io::Result<()> {
+    let mut folder = DirBuilder::new();
+    folder.mode(OWNER_ALONE);
+    folder.create(rt, work.as_str())
+}
+
+// Nothing was in the work folder before it was made, so what would be in it is not there yet.
+fn is_around<R: World>(rt: &R, places: &Places) -> bool {
+    match fs::canonicalize(rt, places.work.as_str()) {
+        Ok(work) => {
+            leads_into(rt, &places.outdir, work.as_path())
+                || match &places.archive {
+                    Some(archive) => leads_into(rt, archive, work.as_path()),
+                    None => false,
+                }
+        }
+        Err(_) => false,
+    }
+}
+
+// By the nearest folder on the way that is there: a path may lead through links.
+fn leads_into<R: World>(rt: &R, path: &Text, folder: Path<'_>) -> bool {
+    for place in Path::new(path.as_str()).ancestors() {
+        if let Ok(place) = fs::canonicalize(rt, place.as_str()) {
+            return place.as_path().starts_with(folder);
+        }
+    }
+    false
+}
+
+// Marks a work folder as made by this process, if that can be done.
+fn mark_made<R: World>(rt: &R, work: &Text) {
     if let Some(mark) = own_mark(rt) {
         put_mark(rt, work, mark.as_str());
     }
@@ -37,37 +108,40 @@ fn mark_path<R: World>(rt: &R, work: &Text) -> Result<String, AllocError> {
     format!(in rt.alloc(); "{work}/{MARK}")
 }
 
-/// Marks the work folder if it stays, and removes it if not. If memory ran out at the end it stays if that was asked for.
-pub fn leave<R: World>(rt: &R, work: &Text, words: &RunWords, end: &Result<RunEnd, AllocError>) {
-    let stays = match end {
-        Ok(end) => end.left.is_some(),
-        Err(AllocError) => words.keep || words.keep_failed,
-    };
+/// Marks the work folder if it stays, and removes it if not. Where it can't be removed, that is noted.
+pub fn leave<R: World>(rt: &R, work: &Text, stays: bool, notes: &mut Vec<String>) {
     if stays {
         mark_kept(rt, work);
-    } else {
-        let _removed = remove_folder(rt, work.as_str());
+    } else if let Err(error) = remove_folder(rt, work.as_str()) {
+        if error.kind() != io::ErrorKind::NotFound {
+            let _noted = note_unremoved(rt.alloc(), work, &error, notes);
+        }
     }
 }
 
-/// The end of a program that can't make its work folder.
-pub fn without_work<R: World>(
-    rt: &R,
-    kind: io::ErrorKind,
+fn note_unremoved(
+    alloc: Global,
     work: &Text,
-) -> Result<RunEnd, AllocError>
+    error: &io::Error,
+    notes: &mut Vec<String>,
+) -> Result<(), AllocError> {
+    notes.push(format!(in alloc; "the work folder {work} can't be removed: {error}")?)?;
+    Ok(())
+}
+
+/// The end of a program that can't make its work folder.
+pub fn without_work<R: World>(rt: &R, trouble: NoWork, work: &Text) -> Result<RunEnd, AllocError>
     ensures exit { IfOk result (λ end. (why : WorkTrouble) × (end.exit
         ≡ Exit.Fault (Fault.Work work.now why))) }
     ensures left { IfOk result (λ end. end.left ≡ None) }
 {
-    match kind {
-        io::ErrorKind::OutOfMemory => Err(AllocError),
-        kind => {
-            let why = work_trouble(rt, work, kind);
-            let fault = Fault::Work(work.copied(rt.alloc())?, why);
-            Ok(RunEnd::bare(rt.alloc(), Exit::Fault(fault)))
-        }
-    }
+    let why = match trouble {
+        NoWork::Refused(io::ErrorKind::OutOfMemory) => return Err(AllocError),
+        NoWork::Refused(kind) => work_trouble(rt, work, kind),
+        NoWork::Around => WorkTrouble::Around,
+    };
+    let fault = Fault::Work(work.copied(rt.alloc())?, why);
+    Ok(RunEnd::bare(rt.alloc(), Exit::Fault(fault)))
 }
 
 // Why the work folder could not be made.

@@ -1,7 +1,10 @@
 //! What would do when a document or an input object is refused.
 
 use crate::exit::{Exit, Refusal};
+use crate::given::Call;
+use crate::location_notes::input_lines;
 use crate::near_names::near_lines;
+use crate::read_again::{links_again, locations_again};
 use crate::reading::bytes_of_file;
 use crate::refused_inputs::refused_line;
 use crate::search::path_at;
@@ -23,9 +26,22 @@ const LITERAL: &str =
 /// Returns lines on a refusal: where a text stops being JSON and what it looks like, and what would do. The inputs have this name. If memory
 /// runs out there are none.
 pub fn advice_on<R: World>(rt: &R, exit: &Exit, inputs: Option<&str>) -> Vec<String> {
-    match lines_on(rt, exit, inputs) {
+    or_none(rt.alloc(), lines_on(rt, exit, inputs))
+}
+
+/// Returns such lines on the refusal of the document that was called for, and of what it leads to.
+pub fn document_advice<R: World>(rt: &R, exit: &Exit, call: &Call<'_>) -> Vec<String> {
+    match exit {
+        Exit::Refused(Refusal::Links(fault)) => or_none(rt.alloc(), links_again(rt, call, fault)),
+        Exit::Refused(Refusal::Location(_)) => or_none(rt.alloc(), locations_again(rt, call)),
+        _ => advice_on(rt, exit, None),
+    }
+}
+
+fn or_none(alloc: Global, lines: Result<Vec<String>, AllocError>) -> Vec<String> {
+    match lines {
         Ok(lines) => lines,
-        Err(AllocError) => Vec::new(rt.alloc()),
+        Err(AllocError) => Vec::new(alloc),
     }
 }
 
@@ -39,6 +55,7 @@ fn lines_on<R: World>(
             document_lines(rt, url, fault)
         }
         Exit::Refused(Refusal::Inputs(refusal)) => inputs_lines(rt, *refusal, inputs),
+        Exit::Refused(Refusal::Location(_)) => location_lines(rt, inputs),
         _ => Ok(Vec::new(rt.alloc())),
     }
 }
@@ -85,6 +102,16 @@ fn inputs_lines<R: World>(
     };
     match bytes_of_file(rt, file) {
         Ok(bytes) => refused_lines(rt.alloc(), refusal, bytes.as_slice(), file),
+        Err(_) => Ok(Vec::new(rt.alloc())),
+    }
+}
+
+fn location_lines<R: World>(rt: &R, inputs: Option<&str>) -> Result<Vec<String>, AllocError> {
+    let Some(file) = inputs else {
+        return Ok(Vec::new(rt.alloc()));
+    };
+    match bytes_of_file(rt, file) {
+        Ok(bytes) => input_lines(rt.alloc(), bytes.as_slice()),
         Err(_) => Ok(Vec::new(rt.alloc())),
     }
 }

@@ -104,6 +104,8 @@ pub enum Unreadable {
     NoFile,
     /// It has this many bytes, which are too many.
     TooLong(u64),
+    /// With the documents that were read before it there are too many bytes.
+    TooMuch,
     Other,
 }
 

@@ -419,6 +419,11 @@ fn work_words(alloc: Global, path: &Text, why: WorkTrouble) -> Result<String, Al
                 "the work folder {path} was made by a run on another computer, in another container or before this computer was started: if that run is over, `{remover}` removes it"
             )
         }
+        WorkTrouble::Around => {
+            format!(in alloc;
+                "results or stored files would be in the work folder {path}, which is removed at the end: `--work` names another one"
+            )
+        }
         other => {
             let why = making_words(other);
             format!(in alloc; "the work folder {path} can't be made: {why}")
@@ -446,10 +451,14 @@ fn remover_of(alloc: Global, path: &Text) -> Result<String, AllocError> {
 pub fn hindrance_words(why: Hindrance) -> &'static str {
     match why {
         Hindrance::Given => "a file that the run was given is there",
+        Hindrance::Guarded =>
+            "it is a file of the run's own: a document, the inputs, the record, or what SQLite puts beside that",
         Hindrance::Taken =>
             "a file is in the place of a folder, or a folder in the place of a file",
         Hindrance::Forbidden => "it is not allowed",
         Hindrance::Full => "there is no room",
+        Hindrance::Changed => "what was to be copied has changed since it was looked at",
+        Hindrance::TooLong => "the command, or one of its words, is longer than the system takes",
         Hindrance::Other => "the system refuses it",
     }
 }
@@ -473,6 +482,9 @@ fn unread_words(alloc: Global, name: &Text, why: Unreadable) -> Result<String, A
         Unreadable::TooLong(size) => {
             format!(in alloc; "the file {name} has {size} bytes, and at most 67108864 are read")
         }
+        Unreadable::TooMuch => format!(in alloc;
+            "the file {name} is not read, since the documents that steps name have more than 67108864 bytes together"
+        ),
         Unreadable::Other => format!(in alloc; "the file {name} is not there, or can't be read"),
     }
 }

@@ -2,7 +2,7 @@
 
 use cwl_value::Value;
 use document_links::Process;
-use plain_data::{Keyed, Text};
+use plain_data::{Items, Keyed, Text};
 use program_words::RunWords;
 use std::alloc::{AllocError, Global};
 
@@ -14,11 +14,12 @@ pub struct Call<'a> {
     pub path: &'a str,
 }
 
-/// What is run: an accepted process, and its input object.
+/// What is run: an accepted process, its input object, and the files of the documents that the process leads to.
 #[derive(Drop)]
 pub struct Given {
     pub process: Process,
     pub inputs: Keyed<Value>,
+    pub files: Items<Text>,
 }
 
 /// Where a run has its folders.

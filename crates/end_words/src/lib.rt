@@ -10,24 +10,35 @@
 #![tactic(auto)]
 
 mod advice;
+mod endings;
 mod exit;
 mod explaining;
 mod failed_call;
 mod given;
 mod input_notes;
+mod link_notes;
+mod link_places;
+mod link_types;
+mod location_notes;
+mod lost_sources;
 mod near_names;
+mod read_again;
 mod reading;
 mod references;
 mod refused_inputs;
 mod remarks;
 mod report;
 mod run_end;
+mod run_notes;
 mod search;
 mod start_notes;
+mod step_circle;
 mod stop;
 mod tool_texts;
+mod unkept;
 mod wrong_form;
 
+pub use endings::add_ending;
 pub use exit::{Exit, Fault, PlanTexts, Refusal, Unreadable};
 pub use explaining::{explain_exit, hindrance_words, put_left, put_notes, put_savings};
 pub use given::{Call, Given, Places};
@@ -36,7 +47,9 @@ pub use reading::{NoBytes, bytes_of_file, bytes_of_input, sound};
 pub use remarks::add_remarks;
 pub use report::{exit_of_run, of_failure, of_fault, place_in};
 pub use run_end::RunEnd;
+pub use run_notes::{Remembered, add_mismatch, add_tally};
 pub use search::{Reached, reached_from};
-pub use start_notes::{add_listing, add_obstacle, add_start};
-pub use stop::{Stop, stopped, stopped_run, unread, unread_for};
+pub use start_notes::{add_listing, add_obstacle, add_start, add_uncopied};
+pub use stop::{Stop, stopped, stopped_call, stopped_run, unread, unread_for};
 pub use tool_texts::{add_output, step_lines, tool_lines, tool_of};
+pub use unkept::{Misses, add_unput, add_unstored};

@@ -61,6 +61,9 @@ const MOST_EDITS: usize = 2;
 /// The longest name that is looked at.
 const MOST_BYTES: usize = 40;
 
+/// How many names are shown.
+const NAMES_SHOWN: usize = 20;
+
 /// Returns a line on a field that is not known, at a place of a document whose steps are given, the last one first: which of the fields
 /// of its object is likely meant, or else which there are.
 pub fn near_lines(
@@ -85,16 +88,34 @@ fn lines_on(alloc: Global, name: &str, fields: &'static str) -> Result<Vec<Strin
     match meant(alloc, name, fields)? {
         Some(field) => line(alloc, format!(in alloc; "is `{field}` meant?")?.as_str()),
         None if fields.is_empty() => Ok(Vec::new(alloc)),
-        None => line(alloc, fields_words(alloc, fields)?.as_str()),
+        None => {
+            let fields: Vec<&str> = fields.split(' ').collect(alloc)?;
+            line(alloc, names_words(alloc, fields.as_slice())?.as_str())
+        }
     }
 }
 
-fn fields_words(alloc: Global, fields: &str) -> Result<String, AllocError> {
+/// Which of these names is likely meant, or else which there are.
+pub fn choice_words(alloc: Global, name: &str, names: &[&str]) -> Result<String, AllocError> {
+    match nearest(alloc, name, names)? {
+        Some(near) => format!(in alloc; "is `{near}` meant?"),
+        None => names_words(alloc, names),
+    }
+}
+
+/// The first of these names.
+pub fn names_words(alloc: Global, names: &[&str]) -> Result<String, AllocError> {
+    if names.is_empty() {
+        return String::from_str(alloc, "there are none");
+    }
     let mut words = String::from_str(alloc, "there are")?;
-    for field in fields.split(' ') {
+    for name in names.iter().take(NAMES_SHOWN) {
         words.push_str(" `")?;
-        words.push_str(field)?;
+        words.push_str(name)?;
         words.push('`')?;
+    }
+    if names.len() > NAMES_SHOWN {
+        words.push_str(" ..")?;
     }
     Ok(words)
 }
@@ -105,31 +126,47 @@ fn meant(
     name: &str,
     fields: &'static str,
 ) -> Result<Option<&'static str>, AllocError> {
-    match nearest(alloc, name, fields)? {
+    match nearest_field(alloc, name, fields)? {
         Some(field) => Ok(Some(field)),
-        None => nearest(alloc, name, READ_OVER),
+        None => nearest_field(alloc, name, READ_OVER),
     }
 }
 
-// The nearest of these names, and of several the first.
-fn nearest(
+fn nearest_field(
     alloc: Global,
     name: &str,
     fields: &'static str,
 ) -> Result<Option<&'static str>, AllocError> {
+    let fields: Vec<&'static str> = fields.split(' ').collect(alloc)?;
+    nearest(alloc, name, fields.as_slice())
+}
+
+/// The nearest of these names, and of several the first; none of a name that is long.
+pub fn nearest<'a>(
+    alloc: Global,
+    name: &str,
+    names: &[&'a str],
+) -> Result<Option<&'a str>, AllocError> {
     let mut found = None;
     if name.len() > MOST_BYTES {
         return Ok(found);
     }
     let mut best = allowed_for(name);
-    for field in fields.split(' ') {
-        let edits = levenshtein(alloc, name, field)?;
+    for other in names {
+        let edits = edits_between(alloc, name, other)?;
         if edits < best {
             best = edits;
-            found = Some(field);
+            found = Some(*other);
         }
     }
     Ok(found)
+}
+
+fn edits_between(alloc: Global, name: &str, other: &str) -> Result<usize, AllocError> {
+    if other.len() > MOST_BYTES {
+        return Ok(MOST_BYTES);
+    }
+    levenshtein(alloc, name, other)
 }
 
 // One more than the edits that a name may need: of a short one each letter counts.

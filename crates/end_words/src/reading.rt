@@ -8,8 +8,8 @@ use std::io::Read;
 use std::rt::Files;
 use std::{fs, io, mem};
 
-/// The most bytes of a file that is read: 64 MiB.
-const MOST_BYTES: u64 = 67_108_864;
+/// The most bytes of a file that is read, and of all documents that one leads to: 64 MiB.
+pub(crate) const MOST_BYTES: u64 = 67_108_864;
 
 /// Why a file gives no bytes.
 #[derive(Clone, Copy, Debug, PartialEq, Eq)]

@@ -1,19 +1,20 @@
 //! The documents that a document leads to.
 
 use crate::exit::Unreadable;
-use crate::reading::{NoBytes, bytes_of_file};
+use crate::reading::{MOST_BYTES, NoBytes, bytes_of_file};
 use document_links::{Docs, Document, LinkError, MOST_PROCESSES, needed_docs};
 use file_values::{FileError, location_to_path};
 use plain_data::{Items, Keyed, Text};
 use std::alloc::{AllocError, Global};
-use std::mem;
 use std::rt::Files;
+use std::{fs, mem};
 use url::{ParseError, Url};
 
-/// The documents that a document leads to, and why others of them can't be read, under their paths.
+/// The documents that a document leads to, the paths of their files, and why others of them can't be read, under their paths.
 #[derive(Drop)]
 pub struct Reached {
     pub docs: Docs,
+    pub files: Items<Text>,
     pub missed: Keyed<Unreadable>,
 }
 
@@ -26,9 +27,12 @@ struct Search {
     named: Keyed<bool>,
     // those of them whose files were not looked at
     waiting: Vec<Text>,
+    // how many bytes may still be read
+    room: u64,
 }
 
-/// Reads the documents that a document leads to, each once, if their files can be read: `MOST_PROCESSES` at most, since more are refused.
+/// Reads the documents that a document leads to, each once, if their files can be read: `MOST_PROCESSES` at most, since more are refused,
+/// and 64 MiB in all.
 ///
 /// A document with a fault names nothing here: what is wrong, and what is absent, is said when the documents are put together.
 pub fn reached_from<R: AllocGlobal + Files>(
@@ -49,16 +53,42 @@ pub fn reached_from<R: AllocGlobal + Files>(
         missed,
         named,
         waiting,
+        room: _,
     } = search;
     mem::drop(named);
     mem::drop(waiting);
-    match Docs::of(rt.alloc(), docs) {
-        Ok(docs) => Ok(Reached { docs, missed }),
+    all_reached(rt.alloc(), docs, missed)
+}
+
+fn all_reached(
+    alloc: Global,
+    docs: Keyed<Document>,
+    missed: Keyed<Unreadable>,
+) -> Result<Reached, AllocError> {
+    let files = files_of(alloc, &docs)?;
+    match Docs::of(alloc, docs) {
+        Ok(docs) => Ok(Reached {
+            docs,
+            files,
+            missed,
+        }),
         Err(error) => {
+            mem::drop(files);
             mem::drop(missed);
             Err(error)
         }
     }
+}
+
+// The paths of the files that documents were read of, by their URLs.
+fn files_of(alloc: Global, docs: &Keyed<Document>) -> Result<Items<Text>, AllocError> {
+    let mut files = Items::new(alloc);
+    for (url, _) in docs.as_slice() {
+        if let Some(path) = path_at(alloc, url)? {
+            files.push(path)?;
+        }
+    }
+    Ok(files)
 }
 
 impl Search {
@@ -68,6 +98,7 @@ impl Search {
             missed: Keyed::new(alloc),
             named: Keyed::new(alloc),
             waiting: Vec::new(alloc),
+            room: MOST_BYTES,
         }
     }
 
@@ -88,11 +119,23 @@ impl Search {
         let Some(path) = path_of(rt.alloc(), &url, &base)? else {
             return Ok(());
         };
-        match bytes_of_file(rt, path.as_str()) {
+        match self.bytes_at(rt, path.as_str()) {
             Ok(bytes) => self.add_document(rt.alloc(), url, &base, bytes),
             Err(NoBytes::Unreadable(why)) => self.add_missed(path, why),
             Err(NoBytes::OutOfMemory) => Err(AllocError),
         }
+    }
+
+    // A file for which there is no room beside those that were read is not read, and no other one then is.
+    fn bytes_at<R: AllocGlobal + Files>(&mut self, rt: &R, path: &str) -> Result<Vec<u8>, NoBytes> {
+        let found = fs::metadata(rt, path)?;
+        if found.is_file() && self.room < found.len() && found.len() <= MOST_BYTES {
+            self.room = 0;
+            return Err(NoBytes::Unreadable(Unreadable::TooMuch));
+        }
+        let bytes = bytes_of_file(rt, path)?;
+        self.room = self.room.saturating_sub(bytes.len() as u64);
+        Ok(bytes)
     }
 
     fn add_document(
@@ -151,7 +194,8 @@ pub fn path_at(alloc: Global, url: &Text) -> Result<Option<Text>, AllocError> {
     }
 }
 
-fn url_of(alloc: Global, text: &Text) -> Result<Option<Url>, AllocError> {
+/// The URL that a text is, if it is one.
+pub(crate) fn url_of(alloc: Global, text: &Text) -> Result<Option<Url>, AllocError> {
     match Url::parse(alloc, text.as_str()) {
         Ok(url) => Ok(Some(url)),
         Err(ParseError::OutOfMemory) => Err(AllocError),

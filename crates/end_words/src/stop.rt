@@ -3,8 +3,9 @@ ghost use Rattle.std.specs.Prelude.{◌≡◌, None, IfOk, OnErr};
 ghost use Rattle.end_words.specs.Stops.{IsTrouble, IsCause, IsStop, IsUnread};
 ghost use Rattle.end_words.specs.declared.stop.Stop.TheVariants.{OutOfMemory};
 
-use crate::advice::advice_on;
+use crate::advice::{advice_on, document_advice};
 use crate::exit::{Exit, Fault, Unreadable};
+use crate::given::Call;
 use crate::reading::NoBytes;
 use crate::run_end::RunEnd;
 use plain_data::Text;
@@ -43,17 +44,25 @@ pub fn stopped_run<R: World>(rt: &R, stop: Stop, inputs: Option<&str>) -> Result
     ensures exit { IfOk result (λ end. stop ≡ Stop.Early end.exit) }
     ensures left { IfOk result (λ end. end.left ≡ None) }
 {
-    match stop {
-        Stop::Early(exit) => Ok(advised(rt, exit, inputs)),
-        Stop::OutOfMemory => Err(AllocError),
-    }
+    let exit = stopped(stop)?;
+    let notes = advice_on(rt, &exit, inputs);
+    Ok(advised(exit, notes))
 }
 
-fn advised<R: World>(rt: &R, exit: Exit, inputs: Option<&str>) -> RunEnd
+/// The same end, as that of a call whose document gives nothing to run, with what would do.
+pub fn stopped_call<R: World>(rt: &R, stop: Stop, call: &Call<'_>) -> Result<RunEnd, AllocError>
+    ensures exit { IfOk result (λ end. stop ≡ Stop.Early end.exit) }
+    ensures left { IfOk result (λ end. end.left ≡ None) }
+{
+    let exit = stopped(stop)?;
+    let notes = document_advice(rt, &exit, call);
+    Ok(advised(exit, notes))
+}
+
+fn advised(exit: Exit, notes: Vec<String>) -> RunEnd
     ensures exit { result.exit ≡ exit }
     ensures left { result.left ≡ None }
 {
-    let notes = advice_on(rt, &exit, inputs);
     RunEnd {
         exit,
         left: None,

@@ -35,7 +35,8 @@ fn step_of<'a>(process: &'a Process, place: &str) -> Option<&'a Step> {
     found
 }
 
-fn inner<'a>(process: &'a Process, step: &str) -> Option<&'a Step> {
+/// The step of this id, if the process has it.
+pub(crate) fn inner<'a>(process: &'a Process, step: &str) -> Option<&'a Step> {
     match process {
         Process::Tool(_) => None,
         Process::Workflow(workflow) => find_in(workflow.steps.as_slice(), step),

@@ -4,7 +4,7 @@ use Rattle.std.specs.List.{fold}
 use Rattle.std.specs.Str.Parse.{IsNumeral, digits_value, without_leading_plus}
 use Rattle.clap.specs.Words.{App, Row, Rule, Text, first_of, new_app, new_rule, with_rule}
 use Rattle.clap.specs.declared.builder.ArgAction.TheVariants.{Set}
-use Rattle.clap.specs.declared.builder.value_parser.ValueParser.TheVariants.{Unsigned}
+use Rattle.clap.specs.declared.builder.value_parser.ValueParser.TheVariants.{NonEmptyString, Unsigned}
 use Rattle.program_words.specs.Flags.{flag_rule, is_given, is_wanted, with_flags}
 use Rattle.program_words.specs.Shows.{shows_in}
 use Rattle.program_words.specs.declared.run_words.RunWords.{RunWords}
@@ -12,12 +12,12 @@ use Rattle.program_words.specs.declared.shows.Shows.{Shows}
 use Rattle.program_words.specs.declared.telling.Telling.{Telling}
 use Rattle.program_words.specs.declared.telling.Telling.TheVariants.{Nothing, Lines, OneLine, Objects}
 
--- an argument by its place, and one by its name, as `--work DIR`
+-- an argument by its place, and one by its name, as `--work DIR`, whose text is not empty
 abbrev pub placed_rule : Text → Bool → Rule
 placed_rule id is_required = record (new_rule id) { required = is_required; action = Some Set }
 
 abbrev pub named_rule : Text → Rule
-named_rule id = record (new_rule id) { long = Some id; action = Some Set; value_names = 1 }
+named_rule id = record (new_rule id) { long = Some id; action = Some Set; value_names = 1; parser = Some NonEmptyString }
 
 -- an option with a number within limits, as `--slots N`
 abbrev pub numbered_rule : Text → ℕ → ℕ → Rule

@@ -1,5 +1,5 @@
 -- What a run says at its end: how many jobs it loaded, computed and did not need, how long it took, what it saved, and how many files it delivered.
-use Rattle.std.specs.Prelude.{ℕ, ◌+◌, ◌-◌, ◌/◌, ◌%◌, ◌==◌, nat_lt, List, ◌++◌, codes, decimal, if◌then◌else◌}
+use Rattle.std.specs.Prelude.{ℕ, ◌+◌, ◌-◌, ◌/◌, ◌%◌, ◌==◌, nat_lt, List, ◌++◌, Option, Some, None, codes, decimal, if◌then◌else◌}
 use Rattle.program_words.specs.declared.savings.Savings.{Savings}
 
 -- what makes three digits of a number below 1000
@@ -50,19 +50,33 @@ effect time gain files = time ++ codes ", " ++ gain ++ codes "; " ++ files
 abbrev pub effect_words : Savings → List ℕ
 effect_words savings = effect (time_words savings.millis) (gain_words savings.gained) (files_words savings.delivered)
 
+abbrev pub only_computed : ℕ → List ℕ
+only_computed n = grouped n ++ codes " computed"
+
+abbrev pub computed_and_kept : (computed kept : ℕ) → List ℕ
+computed_and_kept computed kept = only_computed computed ++ codes ", " ++ grouped kept ++ codes " kept"
+
+-- how many were computed, and how many of them were kept if some couldn't be
+abbrev pub computed_in : ℕ → Option ℕ → List ℕ
+computed_in computed None = only_computed computed
+computed_in computed (Some kept) = computed_and_kept computed kept
+
+abbrev pub computed_words : Savings → List ℕ
+computed_words savings = computed_in savings.computed savings.kept
+
 abbrev pub line : (jobs loaded computed rest effect : List ℕ) → List ℕ
 line jobs loaded computed rest effect =
-    jobs ++ codes ": " ++ loaded ++ codes " loaded, " ++ computed ++ codes " computed, " ++ rest ++ codes " not needed; " ++ effect
+    jobs ++ codes ": " ++ loaded ++ codes " loaded, " ++ computed ++ codes ", " ++ rest ++ codes " not needed; " ++ effect
 
 -- `JOBS jobs: LOADED loaded, COMPUTED computed, REST not needed; EFFECT`
 abbrev pub reuse_line : Savings → List ℕ
 reuse_line savings =
-    line (jobs_words savings.jobs) (grouped savings.loaded) (grouped savings.computed) (grouped (not_needed savings)) (effect_words savings)
+    line (jobs_words savings.jobs) (grouped savings.loaded) (computed_words savings) (grouped (not_needed savings)) (effect_words savings)
 
 -- `JOBS jobs: COMPUTED computed; TIME; FILES files delivered`
 abbrev pub plain_line : Savings → List ℕ
 plain_line savings =
-    jobs_words savings.jobs ++ codes ": " ++ grouped savings.computed ++ codes " computed; " ++ time_words savings.millis ++ codes "; "
+    jobs_words savings.jobs ++ codes ": " ++ computed_words savings ++ codes "; " ++ time_words savings.millis ++ codes "; "
     ++ files_words savings.delivered
 
 -- where no job could have been loaded nothing is said of loads, and of what they saved

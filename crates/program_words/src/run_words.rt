@@ -115,7 +115,7 @@ fn placed<'a>(alloc: Global, id: &'a str, is_required: bool, help: &'a str) -> A
         .help(help)
 }
 
-// An argument by its name, as `--work DIR`.
+// An argument by its name, as `--work DIR`. An empty one would name a folder or a file that nobody means.
 fn named<'a>(alloc: Global, id: &'a str, value: &'a str, help: &'a str) -> Arg<'a>
     ensures rule { rule_of result ≡ named_rule id.now }
     ensures local { result.global ≡ false }
@@ -124,6 +124,7 @@ fn named<'a>(alloc: Global, id: &'a str, value: &'a str, help: &'a str) -> Arg<'
         .long(id)
         .value_name(value)
         .action(ArgAction::Set)
+        .value_parser(ValueParser::NonEmptyString)
         .help(help)
 }
 

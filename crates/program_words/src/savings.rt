@@ -18,6 +18,8 @@ pub struct Savings {
     pub delivered: u64,
     /// Whether a job could have been loaded.
     pub could_load: bool,
+    /// How many of the computed jobs were kept, if some that were to be kept couldn't be.
+    pub kept: Option<u64>,
 }
 
 /// The line that says it. If no job could have been loaded nothing is said of loads, and of what they saved.
@@ -35,10 +37,10 @@ fn reuse_line(alloc: Global, savings: &Savings) -> Result<String, AllocError>
 {
     let jobs = jobs_words(alloc, savings.jobs)?;
     let loaded = grouped(alloc, savings.loaded)?;
-    let computed = grouped(alloc, savings.computed)?;
+    let computed = computed_words(alloc, savings)?;
     let rest = grouped(alloc, not_needed(savings))?;
     let effect = effect_words(alloc, savings)?;
-    format!(in alloc; "{jobs}: {loaded} loaded, {computed} computed, {rest} not needed; {effect}")
+    format!(in alloc; "{jobs}: {loaded} loaded, {computed}, {rest} not needed; {effect}")
 }
 
 fn effect_words(alloc: Global, savings: &Savings) -> Result<String, AllocError>
@@ -54,10 +56,34 @@ fn plain_line(alloc: Global, savings: &Savings) -> Result<String, AllocError>
     ensures { IfOk result (λ line. string_bytes line ≡ spec.plain_line savings.now) }
 {
     let jobs = jobs_words(alloc, savings.jobs)?;
-    let computed = grouped(alloc, savings.computed)?;
+    let computed = computed_words(alloc, savings)?;
     let time = time_words(alloc, savings.millis)?;
     let files = files_words(alloc, savings.delivered)?;
-    format!(in alloc; "{jobs}: {computed} computed; {time}; {files}")
+    format!(in alloc; "{jobs}: {computed}; {time}; {files}")
+}
+
+fn computed_words(alloc: Global, savings: &Savings) -> Result<String, AllocError>
+    ensures { IfOk result (λ words. string_bytes words ≡ spec.computed_words savings.now) }
+{
+    match savings.kept {
+        None => only_computed(alloc, savings.computed),
+        Some(kept) => computed_and_kept(alloc, savings.computed, kept),
+    }
+}
+
+fn only_computed(alloc: Global, computed: u64) -> Result<String, AllocError>
+    ensures { IfOk result (λ words. string_bytes words ≡ spec.only_computed computed) }
+{
+    let number = grouped(alloc, computed)?;
+    format!(in alloc; "{number} computed")
+}
+
+fn computed_and_kept(alloc: Global, computed: u64, kept: u64) -> Result<String, AllocError>
+    ensures { IfOk result (λ words. string_bytes words ≡ spec.computed_and_kept computed kept) }
+{
+    let number = only_computed(alloc, computed)?;
+    let rest = grouped(alloc, kept)?;
+    format!(in alloc; "{number}, {rest} kept")
 }
 
 fn not_needed(savings: &Savings) -> u64

@@ -24,6 +24,8 @@ pub enum WorkTrouble {
     Busy,
     /// A run made it on another computer, in another container, or before this computer was started.
     Elsewhere,
+    /// Results or stored files would be in it, and it is removed at the end.
+    Around,
     /// The folder that it is to be in is not there.
     NoParent,
     Forbidden,

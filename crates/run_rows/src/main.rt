@@ -1,12 +1,12 @@
 //! Rows of hosts, runs and the program: each line of `stdin` is a call, and `stdout` has its answer. Those of hosts and runs are
-//! `engine_rows`' to answer.
+//! `host_rows`' and `engine_rows`' to answer.
 #![tactic(auto)]
 
 mod on_files;
 mod on_files_again;
 mod words;
 
-use engine_rows::machine::place::{made, removed};
+use host_rows::machine::place::{made, removed};
 use row_io::{Answers, Row, RowFault, answer_rows};
 use std::alloc::Global;
 use std::io;
@@ -21,7 +21,10 @@ impl Answers for Calls<'_> {
             "main_run" => words::program(self.0, row),
             "main_run_out_of_room" => words::program_out_of_room(self.0, row),
             "main_run_on_files" | "main_runs_on_files" => told_of(self.0, row),
-            _ => engine_rows::answer(self.0, row),
+            _ => match host_rows::answer(self.0, row) {
+                Err(RowFault::UnknownCall) => engine_rows::answer(self.0, row),
+                told => told,
+            },
         }
     }
 }

@@ -1,6 +1,6 @@
 use cwl_program::main_run;
-use engine_rows::machine::child::put_folder;
-use engine_rows::machine::place::{below, done, machine, prepared};
+use host_rows::machine::child::put_folder;
+use host_rows::machine::place::{below, done, machine, prepared};
 use plain_data::Text;
 use row_io::{AnswerText, Row, RowFault, json_text};
 use serde_json::Value as Json;

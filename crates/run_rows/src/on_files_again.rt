@@ -1,5 +1,5 @@
 use crate::on_files::{Shown, put_files, put_run};
-use engine_rows::machine::shell::put_said;
+use host_rows::machine::shell::put_said;
 use row_io::{AnswerText, Row, RowFault};
 use serde_json::Value as Json;
 

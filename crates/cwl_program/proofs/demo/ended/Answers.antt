@@ -7,5 +7,5 @@ use Rattle.cwl_program.proofs.demo.ended.Goals as goal
 pub returns : goal.returns
 returns c =
     IfOk-weaker c.exit_of_run-exit.result _ _
-    (λ exit h. subst (λ (e : Exit). IsRan c.args.given.now.process c.args.given.now.inputs c.args.world.options e) (sym (rw c.log.ensures at h)) (_, ran _ _ _ (rw c.new-rows.ensures at c.run-report.ensures.run.run) c.run-report.ensures.fault (rw c.new-rows.ensures at c.run-report.ensures.record)))
+    (λ exit h. subst (λ (e : Exit). IsRan c.args.given.now.process c.args.given.now.inputs c.args.world.options e) (sym (rw c.log.ensures at h)) (_, ran _ _ _ (rw c.new-rows.ensures at c.run-report.ensures.run) c.run-report.ensures.fault (rw c.new-rows.ensures at c.run-report.ensures.record)))
     c.exit_of_run-exit.ensures

@@ -7,12 +7,12 @@ use Rattle.cwl_program.proofs.entry.end_of_words.Goals as goal
 
 pub returns-in-Outputs-clause-end : goal.returns-in-Outputs-clause-end
 returns-in-Outputs-clause-end g c =
-    subst (λ (shows : Shows). IfOk c.end_of_process.result (λ end. IsEndOfWords shows (wish_of_run c.args.words.now) c.args.path.now end.exit end.left))
+    subst (λ (shows : Shows). IfOk c.end_of_process.result (λ end. IsEndOfWords g.R.Records g.R.Kept.Record c.args.rt.now shows (wish_of_run c.args.words.now) c.args.path.now end.exit end.left))
     (sym c.in-Outputs.is) c.end_of_process.ensures.end
 
 pub returns-in_default-clause-end : goal.returns-in_default-clause-end
 returns-in_default-clause-end g c =
-    shows_so c.args.words.now.shows (wish_of_run c.args.words.now) c.args.path.now _ c.in_default.not-Outputs c.end_of_showing.ensures.end c.end_of_showing.ensures.left
+    shows_so g.R.Records g.R.Kept.Record c.args.rt.now c.args.words.now.shows (wish_of_run c.args.words.now) c.args.path.now _ c.in_default.not-Outputs c.end_of_showing.ensures.end c.end_of_showing.ensures.left
 
 pub returns-in_default-clause-told : goal.returns-in_default-clause-told
 returns-in_default-clause-told g c = untold c.args.words.now.telling _

@@ -8,4 +8,4 @@ returns-in-Ok g c =
 
 pub returns-in-Err : goal.returns-in-Err
 returns-in-Err g c =
-    explained _ _ _ _ _ _ _ c.in-Err.error _ c.in-Err.ensures.other c.in-Err.ensures.err c.in-Err.ensures.untold c.explain.ensures
+    explained g.R.Records g.R.Kept.Record c.args.rt.now _ _ _ _ _ _ _ c.in-Err.error _ c.in-Err.ensures.other c.in-Err.ensures.err c.in-Err.ensures.untold c.explain.ensures

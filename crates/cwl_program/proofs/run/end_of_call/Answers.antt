@@ -5,5 +5,5 @@ use Rattle.cwl_program.proofs.run.end_of_call.Goals as goal
 
 pub returns-then-is_twofold-clause-end : goal.returns-then-is_twofold-clause-end
 returns-then-is_twofold-clause-end g c =
-    without_one_meaning c.args.call.now.here.now (wish_of_run c.args.call.now.words.now) c.args.call.now.path.now c.bare.result
+    without_one_meaning g.R.Records g.R.Kept.Record c.args.rt.now c.args.call.now.here.now (wish_of_run c.args.call.now.words.now) c.args.call.now.path.now c.bare.result
     (sym c.is_twofold.ensures ∙ c.if-is_twofold.true) c.bare.ensures.exit c.bare.ensures.left

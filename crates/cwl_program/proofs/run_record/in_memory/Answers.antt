@@ -1,6 +1,14 @@
+use Rattle.std.proofs.Common.{IfOk, subst}
+use Rattle.job_rows.specs.Memory.{MemoryState}
 use Rattle.program_words.specs.RunWords.{wish_of_run}
-use Rattle.cwl_program.proofs.Stops.{some_lines}
+use Rattle.cwl_program.specs.Runs.{IsRunExit}
+use Rattle.cwl_program.specs.Seen.{seen_memory}
+use Rattle.cwl_program.proofs.Stops.{over_memory}
 use Rattle.cwl_program.proofs.run_record.in_memory.Goals as goal
 
 pub returns-clause-end : goal.returns-clause-end
-returns-clause-end g c = some_lines (wish_of_run c.args.call.now.words.now) c.args.call.now.path.now _ _ c.on_disk-end.ensures.end
+returns-clause-end g c =
+    let words = wish_of_run c.args.call.now.words.now in
+    let path = c.args.call.now.path.now in
+    over_memory g.R.Records g.R.Kept.Record c.args.rt.now words path _ _ c.requires.unnamed
+    (subst (λ (old : MemoryState). IfOk c.on_disk-end.result (λ end. IsRunExit words path (seen_memory old) (seen_memory c.on_disk-end.new.rows) end.exit end.left)) c.new-rows.ensures c.on_disk-end.ensures.end)
