@@ -50,9 +50,11 @@ def is_read_there(found: Any, name: str, peek: Peek, depth: int = 0) -> bool:
 
 
 def takes_numbers(found: Any, name: str, peek: Peek, depth: int = 0) -> bool:
-    """Says whether each process that reads this input, which is of the type Any, tells numbers with a fraction from others: node does it."""
-    if found is None or depth > MOST_NESTED or found[0].get("class") != "Workflow":
-        return found is not None and found[0].get("class") == "ExpressionTool"
+    """Says whether each process that reads this input, which is of the type Any, tells numbers with a fraction from others: node does its tools."""
+    if found is None or depth > MOST_NESTED:
+        return False
+    if found[0].get("class") != "Workflow":
+        return True
     raw, names = found
     for _, step in parameters(raw.get("steps")):
         links = [key for key, source in links_of(step, raw) if source == name] if isinstance(step, Fields) else []

@@ -2,6 +2,8 @@
 
 from typing import Any, List, NamedTuple, Optional, Set
 
+from .visible import visible
+
 REWRITTEN, IGNORED, LEFT, WRONG = "rewritten", "ignored", "left", "wrong"
 
 
@@ -16,7 +18,7 @@ class Finding(NamedTuple):
 
     def text(self) -> str:
         place = f"{self.file}:{self.line}" if self.line else self.file
-        return f"{self.kind}: {place}: {self.feature}: {self.words}"
+        return visible(f"{self.kind}: {place}: {self.feature}: {self.words}")
 
 
 class Findings:

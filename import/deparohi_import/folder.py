@@ -11,7 +11,7 @@ except ImportError:
     from hashlib import sha1
 
 from .fault import ImportFault
-from .places import quoted
+from .places import is_name, quoted
 
 REPORT, INPUTS, LITERALS, MADE_BY = "report.txt", "inputs.json", "literals", "made-by"
 LONG = 200_000
@@ -21,8 +21,8 @@ MOST_CHARACTERS = 16 << 20
 class Folder:
     """A folder with names that are given once each. Nothing is written before the import is whole."""
 
-    def __init__(self, path: str) -> None:
-        self.path = os.path.abspath(path)
+    def __init__(self, path: str, mode: int = 0o777) -> None:
+        self.path, self.mode = os.path.abspath(path), mode
         self.names: Set[str] = {REPORT, INPUTS, LITERALS}
         self.documents: List[tuple] = []
         self.literals: List[tuple] = []
@@ -30,7 +30,7 @@ class Folder:
 
     def name(self, wanted: str) -> str:
         """Returns a name for a document that none has yet."""
-        stem = wanted if wanted not in ("", ".", "..") and "/" not in wanted else "document"
+        stem = wanted if is_name(wanted) else "document"
         name, count = f"{stem}.json", 1
         while name in self.names:
             count += 1
@@ -62,11 +62,11 @@ class Folder:
     def write(self, report: str) -> None:
         """Writes all of it."""
         try:
-            os.makedirs(self.path, exist_ok=True)
+            os.makedirs(self.path, self.mode, exist_ok=True)
             for path, contents in self.literals:
                 self.write_literal(path, contents)
             for name, text in self.extras.items():
-                os.makedirs(os.path.dirname(os.path.join(self.path, name)), exist_ok=True)
+                self.make(os.path.dirname(name))
                 self.put(os.path.join(self.path, name), text)
             for name, value in self.documents:
                 self.put(os.path.join(self.path, name), json_text(value))
@@ -74,24 +74,47 @@ class Folder:
             self.put(os.path.join(self.path, MADE_BY), f"{sum_of(''.join(text for name, text in self.extras.items() if name.endswith('.js')))}\n")
         except OSError as error:
             raise ImportFault(f"the folder can't be written: {error.strerror}", error.filename or self.path) from None
+        except UnicodeEncodeError:
+            raise ImportFault("the folder can't be written: a name has characters that names of files can't have here", self.path) from None
+
+    def make(self, name: str) -> None:
+        """Makes the folders that a name in this folder leads through. None may be a link: it could lead to another's files."""
+        at = self.path
+        for part in filter(None, name.split("/")):
+            at = os.path.join(at, part)
+            try:
+                os.mkdir(at)
+            except FileExistsError:
+                if os.path.islink(at) or not os.path.isdir(at):
+                    raise ImportFault("this is no folder, and what is imported needs one here", at) from None
 
     def write_literal(self, path: str, contents: Any) -> None:
         if isinstance(contents, str):
-            os.makedirs(os.path.dirname(path), exist_ok=True)
+            self.make(os.path.relpath(os.path.dirname(path), self.path))
             self.put(path, contents)
             return
-        os.makedirs(path, exist_ok=True)
-        for name, source in contents:
-            link = os.path.join(path, os.path.basename(name))
-            if os.path.lexists(link):
+        self.make(os.path.relpath(path, self.path))
+        wanted = dict(contents)
+        for name in os.listdir(path):
+            # An earlier import may have put others there.
+            link = os.path.join(path, name)
+            if not os.path.islink(link):
+                raise ImportFault("no import has put this here", link)
+            if wanted.get(name) == os.readlink(link):
+                del wanted[name]
+            else:
                 os.remove(link)
-            os.symlink(source, link)
+        for name, source in wanted.items():
+            os.symlink(source, os.path.join(path, name))
 
     def put(self, path: str, text: str) -> None:
-        """Puts a file in place of an earlier one, whole or not at all."""
-        with open(f"{path}.new", "w", encoding="utf-8", errors="surrogatepass", newline="") as it:
+        """Puts a file in place of an earlier one, whole or not at all. A link at either name is replaced, and not followed."""
+        new = f"{path}.new"
+        if os.path.lexists(new):
+            os.remove(new)
+        with open(new, "x", encoding="utf-8", errors="surrogatepass", newline="") as it:
             it.write(text)
-        os.replace(f"{path}.new", path)
+        os.replace(new, path)
 
 
 def sum_of(text: str) -> str:

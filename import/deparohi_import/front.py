@@ -4,13 +4,17 @@ import json
 import os
 import re
 import signal
+import stat
 import sys
 from typing import Any, Dict, List, Optional
 
 from . import program as importer
+from .fault import ImportFault
 from .formats import with_format
-from .kinds import FORMATS, given_back
+from .kinds import FORMATS, given_back, is_kind
 from .pattern import Pattern
+from .program import FAILED, for_stdout, say
+from .reading import read_text
 
 # The options of the proved program that take a value.
 VALUED = ("--work", "--outdir", "--slots", "--retries", "--record", "--archive", "--cache", "--base", "--rate")
@@ -70,23 +74,48 @@ def main(program: str, words: List[str]) -> int:
         print("deparohi: with a document that is no JSON the inputs are one file", file=sys.stderr)
         return importer.USAGE
     folder = taken.imported or f"{(taken.work or WORK).rstrip('/')}-imported"
+    if not (taken.imported or is_own(folder)):
+        say(f"deparohi: {folder} is a link, or another user's, who could change what is read from it: --imported names it where it is meant")
+        return FAILED
     before = text_of(os.path.join(folder, MADE_BY))
-    status, made = importer.made_of([*(["--quiet"] if "--quiet" in taken.program else []), "-o", folder, *taken.importer, "--", *taken.files])
+    quiet = ["--quiet"] if "--quiet" in taken.program else []
+    status, made = importer.made_of([*quiet, "-o", folder, *taken.importer, "--", *taken.files], 0o777 if taken.imported else 0o700)
     if status:
         return status
     if taken.tells():
-        print(f"{document} is imported into {folder}, and {os.path.join(folder, 'report.txt')} says how", file=sys.stderr)
+        say(f"{document} is imported into {folder}, and {os.path.join(folder, 'report.txt')} says how")
         if before and before != text_of(os.path.join(folder, MADE_BY)):
-            print("another importer made that folder before: jobs that node does may be computed again", file=sys.stderr)
+            say("another importer made that folder before: jobs that node does may be computed again")
     return started([program, words[0], *taken.program, *made], made[0])
+
+
+def is_own(folder: str) -> bool:
+    """Says whether a folder that the user hasn't named is the user's own, or isn't there yet."""
+    try:
+        state = os.lstat(folder)
+    except OSError:
+        return True
+    return not stat.S_ISLNK(state.st_mode) and state.st_uid == os.geteuid()
 
 
 def text_of(path: str) -> str:
     try:
-        with open(path, encoding="utf-8") as it:
-            return it.read()
-    except OSError:
+        return read_text(path)
+    except ImportFault:
         return ""
+
+
+def kinds_beside(document: str) -> Dict[str, Any]:
+    """Returns the types and formats by which the outputs of a document are told. Raises ImportFault where they are none."""
+    path = f"{document}.numbers"
+    try:
+        kinds = json.loads(read_text(path))
+        formats = kinds.get(FORMATS, {}) if isinstance(kinds, dict) else None
+        if isinstance(formats, dict) and all(isinstance(it, str) for it in formats.values()) and all(is_kind(it) for key, it in kinds.items() if key != FORMATS):
+            return kinds
+    except (ValueError, RecursionError):
+        pass
+    raise ImportFault("no import has written this; without it numbers with a fraction stay texts", path)
 
 
 def started(words: List[str], document: str) -> int:
@@ -95,6 +124,11 @@ def started(words: List[str], document: str) -> int:
     sys.stderr.flush()
     if words[1] != "run" or not os.path.exists(f"{document}.numbers"):
         os.execvp(words[0], words)
+    try:
+        kinds = kinds_beside(document)
+    except ImportFault as fault:
+        say(f"deparohi: {fault}")
+        return FAILED
     import signal
     import subprocess
 
@@ -102,22 +136,21 @@ def started(words: List[str], document: str) -> int:
     for one in (signal.SIGINT, signal.SIGTERM, signal.SIGHUP):
         signal.signal(one, lambda *_: None)
     ended = subprocess.run(words, stdout=subprocess.PIPE)
-    made = with_numbers(ended.stdout, document)
+    made = with_numbers(ended.stdout, kinds)
     if made is None:
         sys.stdout.buffer.write(ended.stdout)
         sys.stdout.flush()
     else:
-        print(json.dumps(made, ensure_ascii=False, separators=(",", ":"), sort_keys=True))
+        print(for_stdout(json.dumps(made, ensure_ascii=False, separators=(",", ":"), sort_keys=True)))
     return ended.returncode if ended.returncode >= 0 else 128 - ended.returncode
 
 
-def with_numbers(text: bytes, document: str) -> Optional[Dict[str, Any]]:
+def with_numbers(text: bytes, kinds: Dict[str, Any]) -> Optional[Dict[str, Any]]:
     """Returns an output object with its numbers, or None where it is none."""
     try:
         made = json.loads(text)
     except ValueError:
         return None
-    kinds = json.loads(text_of(f"{document}.numbers") or "{}")
     formats = kinds.get(FORMATS, {})
     return {name: told(it, kinds.get(name, "Any"), formats.get(name)) for name, it in made.items()} if isinstance(made, dict) else None
 
@@ -149,11 +182,11 @@ def cwl_runner(room: str, program: str, words: List[str]) -> int:
     sys.stderr.buffer.write(ended.stderr)
     if ended.returncode:
         return importer.UNSUPPORTED if ended.returncode == importer.UNSUPPORTED and not WRONG_DOCUMENT.search(ended.stderr) else 1
-    outputs = with_numbers(ended.stdout, made[0])
+    outputs = with_numbers(ended.stdout, kinds_beside(made[0]) if os.path.exists(f"{made[0]}.numbers") else {})
     if outputs is None:
         sys.stdout.buffer.write(ended.stdout)
     else:
-        print(json.dumps(with_paths(outputs), indent=4, ensure_ascii=False))
+        print("\n".join(map(for_stdout, json.dumps(with_paths(outputs), indent=4, ensure_ascii=False).split("\n"))))
     return 0
 
 

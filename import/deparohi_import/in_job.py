@@ -5,12 +5,12 @@ can't be done so is found: `refusals` says it, and the tool stays as it is.
 """
 
 import re
-from typing import TYPE_CHECKING, Any, Dict, Iterator, List, NamedTuple, Optional, Tuple
+from typing import TYPE_CHECKING, Any, Dict, FrozenSet, Iterator, List, NamedTuple, Optional, Tuple
 
 from .choices import Choices
 from .expressions import is_javascript, parameters
 from .javascript_parts import parts_of_any
-from .kinds import encoded, items_of, lowered
+from .kinds import encoded, items_of, lowered, mentions
 from .marked import Fields, Items, copied, list_of, marked_of, object_of
 from .names import short
 from .pattern import Pattern
@@ -27,6 +27,9 @@ DOCUMENTING = ("doc", "label", "intent", "format", "streamable", "$namespaces", 
 WHOLE_INPUTS = Pattern(r"(?<![\w$.'\"])inputs(?!\w|\s*[.\[:])")
 # What sees the order of an object's names, and what is no code.
 ENUMERATES = Pattern(r"\bin\b|\bObject\b|\bJSON\b|\.\.\.|\bReflect\b|\bforEach\b")
+# A name of an input in JavaScript, and what is asked of its value.
+CHAIN = Pattern(r"\binputs\s*\.\s*(\w+)((?:\s*\.\s*\w+|\s*\[\s*\w*\s*\])*)")
+REFERRED = Pattern(r"\$\((?:inputs(?:\.(\w+)|\[['\"](\w+)['\"]\])|self)[^()\s]*\.format\)")
 APART = Pattern(r"'(?:[^'\\\n]|\\.)*'|\"(?:[^\"\\\n]|\\.)*\"|//[^\n]*|/\*.*?\*/", re.S)
 KNOWN_LISTINGS = ("no_listing", "shallow_listing", "deep_listing")
 
@@ -223,25 +226,31 @@ class InJob:
     # ---- what would give another value
 
     def check_texts(self) -> None:
+        plain = without_files({short(name): self.parameter("inputs", name, it)["type"] for name, it in parameters(self.raw.get("inputs"))})
         for node, key, whole in texts_below(self.raw):
             # A backslash keeps what follows it from being evaluated, and in JavaScript begins no name.
             text = re.sub(r"\\.", "", whole, flags=re.S)
             if self.scope.library is None and is_javascript(text):
                 self.refuse(node, key, "JavaScript", "this runner takes references to parameters and no JavaScript, and InlineJavascriptRequirement isn't required")
-            if re.search(r"\$\((inputs|self)[^()\s]*\.format\)", text):
+            if any((it[1] or it[2]) not in plain for it in REFERRED.finditer(text)):
                 self.refuse(node, key, "format in a reference", "the format of a file is not kept")
             for code in parts_of_any(text):
-                reason = why_other(code, "\n".join(self.scope.library.texts) if self.scope.library else "")
+                reason = why_other(code, "\n".join(self.scope.library.texts) if self.scope.library else "", plain)
                 if reason:
                     self.refuse(node, key, "JavaScript", reason)
 
 
-def why_other(code: str, library: str = "") -> Optional[str]:
-    """Returns why JavaScript may give another value than in cwltool, or None."""
+def without_files(kinds: Dict[str, Any]) -> FrozenSet[str]:
+    """Returns the names of those expanded types that surely have no files."""
+    return frozenset(name for name, it in kinds.items() if not mentions(it, ("File", "Directory", "Any", "stdin")))
+
+
+def why_other(code: str, library: str, plain: FrozenSet[str]) -> Optional[str]:
+    """Returns why JavaScript may give another value than in cwltool, or None. The plain inputs have no files."""
     bare = APART.sub(" ", code)
     if WHOLE_INPUTS.search(bare) and bare.strip("() ") != "inputs" and ENUMERATES.search(bare + APART.sub(" ", library)):
         return "inputs are named as a whole: their order is another one"
-    if re.search(r"\.\s*format\b(?!\s*\()", bare):
+    if re.search(r"\.\s*format\b(?!\s*\()", CHAIN.sub(lambda it: " " if it[1] in plain else f" {it[2]}", bare)):
         return "the format of a file is not kept"
     if re.search(r"\binputs\b[^;]*\.\s*checksum\b", bare):
         return "the checksum of an input is not known to cwltool"

@@ -8,7 +8,7 @@ from .findings import LEFT
 from .flow import Flow, with_null
 from .forms import entry_of, step
 from .javascript_parts import parts_of_any
-from .kinds import FLOATS, are_alike, encoded, item_of, lowered, may_be_text, mentions
+from .kinds import FLOATS, are_alike, encoded, item_of, items_of, lowered, may_be_text, mentions
 from .marked import Fields, Items, copied, list_of, marked_of, object_of
 from .names import short
 from .plans import Evaluator, tool_of
@@ -74,12 +74,12 @@ class Step:
 
     def is_left(self) -> bool:
         """Says whether some JavaScript stays, with the reason of each text."""
-        from .in_job import why_other
+        from .in_job import why_other, without_files
 
-        left = False
+        left, plain = False, without_files({name: self.kind(name) for name in self.entries})
         for text in [*self.valued.values(), self.condition]:
             for code in parts_of_any(text) if isinstance(text, str) else []:
-                reason = why_other(code, "\n".join(self.library))
+                reason = why_other(code, "\n".join(self.library), plain)
                 if reason:
                     self.owner.reasons[text] = reason
                     left = True
@@ -116,7 +116,7 @@ class Step:
             "library": list(self.library),
             "isStep": True,
             "listing": "deep_listing" if self.version == "v1.0" else "no_listing",
-            "inputs": [{"name": name, "type": with_null(self.kind(name)), **self.loads(name)} for name in seen],
+            "inputs": [{"name": name, "type": with_null(self.kind(name)), **self.told(name)} for name in seen],
             "outputs": outputs,
             "values": [{"name": name, "text": text, "of": name} for name, text in self.valued.items()],
             **{key: [] for key in ("successCodes", "temporaryFailCodes", "permanentFailCodes")},
@@ -139,6 +139,10 @@ class Step:
         if it.get("default") is not None:
             made.put("default", encoded(it["default"], with_null(self.flow.entry(it))), it.line_of("default"))
         return made
+
+    def told(self, name: str) -> Dict[str, Any]:
+        """Returns what the job that evaluates reads of an entry: what valueFrom is about is listed with all that is in it, as cwltool does."""
+        return {**self.loads(name), **({"loadListing": "deep_listing"} if name in self.valued else {})}
 
     def loads(self, name: str) -> Dict[str, Any]:
         return {key: self.entries[name][key] for key in ("loadContents", "loadListing") if self.entries[name].get(key) is not None}
@@ -168,7 +172,7 @@ class Step:
         rest = self.rest(by_name=True)
         for key in OUTER:
             rest.pop(key, None)
-        out = [short(it if isinstance(it, str) else str(it.get("id"))) for it in raw.get("out") or []]
+        out = [short(it if isinstance(it, str) else str(it.get("id"))) for it in items_of(raw.get("out")) if isinstance(it, (str, Fields))]
         given = self.flow.process(self.name)[1]
         may_skip = self.condition is not None
         workflow = object_of(raw, of_class="Workflow")

@@ -30,6 +30,17 @@ def is_enum(kind: Any) -> bool:
     return isinstance(kind, dict) and kind.get("type") == "enum"
 
 
+def is_kind(it: Any) -> bool:
+    """Says whether a value that was read is an expanded type."""
+    if isinstance(it, list):
+        return all(map(is_kind, it))
+    if not isinstance(it, dict):
+        return isinstance(it, str)
+    if it.get("type") == "array":
+        return is_kind(it.get("items"))
+    return is_enum(it) or it.get("type") == "record" and all(is_kind(one.get("type")) for one in fields_of(it))
+
+
 def is_bare(kind: Any) -> bool:
     """Says whether a number with a fraction is a bare text where a value has this type."""
     members = members_of(kind)

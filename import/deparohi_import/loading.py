@@ -36,8 +36,8 @@ class Library:
             self.top = os.path.realpath(os.path.dirname(path))
         if path not in self.files:
             self.room(len(self.files) + len(self.texts), node, key)
-            if node is not None and not os.path.isfile(path):
-                raise fault_at(f"there is no file {path}", node, key)
+            if node is not None:
+                check_file(path, node, key)
             self.reading[path] = None
             values, characters = self.values, self.characters
             self.files[path] = self.placed(read_file(path))
@@ -48,8 +48,7 @@ class Library:
     def text(self, path: str, node: Any, key: Any) -> str:
         if path not in self.texts:
             self.room(len(self.files) + len(self.texts), node, key)
-            if not os.path.isfile(path):
-                raise fault_at(f"there is no file {path}", node, key)
+            check_file(path, node, key)
             self.texts[path] = read_text(path)
         return self.texts[path]
 
@@ -140,6 +139,11 @@ class Library:
             else:
                 placed.add(new, line)
         return placed
+
+
+def check_file(path: str, node: Any, key: Any) -> None:
+    if not os.path.isfile(path):
+        raise fault_at(f"{path} is no regular file" if os.path.exists(path) else f"there is no file {path}", node, key)
 
 
 def length(value: Any) -> int:

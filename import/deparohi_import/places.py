@@ -15,6 +15,11 @@ class NotAFile(ValueError):
     """A location that names no file on this machine."""
 
 
+def is_name(it: object) -> bool:
+    """Says whether this can be the name of a file in a folder."""
+    return isinstance(it, str) and it not in ("", ".", "..") and "/" not in it and "\0" not in it
+
+
 def url_of(path: str) -> str:
     """Returns the `file` URL of an absolute path."""
     return "file://" + quoted(path)

@@ -9,7 +9,7 @@ import os
 from typing import Any, Dict, List, Optional, Tuple
 
 from .folder import Folder, sum_of
-from .kinds import is_file_list, lowered
+from .kinds import is_file_list, items_of, lowered
 from .marked import Fields, Items, list_of, marked_of, object_of
 
 PARTS = os.path.join(os.path.dirname(os.path.abspath(__file__)), "in_job")
@@ -59,7 +59,7 @@ def too_long(inputs: Dict[str, Any], apart: List[str]) -> Optional[str]:
     longest = max(map(bytes_of, told if apart else [inputs]), default=0)
     if longest >= MOST_IN_WORD:
         return f"the inputs that node is told have {longest} bytes in a word, and Linux takes {MOST_IN_WORD - 1}: a long text does in a file, and many files do in inputs of the type File[]"
-    paths = sum(len(os.path.basename(str(it.get("location")))) + ENDS for name in apart for it in inputs.get(name) or [] if isinstance(it, dict))
+    paths = sum(len(os.path.basename(str(it.get("location")))) + ENDS for name in apart for it in items_of(inputs.get(name)) if isinstance(it, dict))
     return f"the paths of the files have more than {paths} bytes in all, and Linux takes fewer: a Directory of them does" if paths > MOST_IN_ALL else None
 
 

@@ -11,7 +11,7 @@ from .findings import IGNORED, LEFT, REWRITTEN, WRONG, Findings
 from .flow import kinds_of, list_type
 from .in_job import InJob
 from .javascript import JavaScript, Library
-from .kinds import encoded
+from .kinds import encoded, mentions
 from .links import lone_picks
 from .marked import Fields, Items, copied, object_of
 from .names import class_name, short, source_name
@@ -64,7 +64,8 @@ class Rewriter:
         self.is_trying = False
         Checker(self.findings).process(made)
         kinds = {it.kind for it in self.findings.all[mark:]}
-        if LEFT not in kinds or WRONG in kinds or not self.javascript.is_on:
+        is_open = takes_any(raw, {**scope.names, **named_types(raw)})
+        if not (LEFT in kinds or is_open) or WRONG in kinds or not self.javascript.is_on:
             return made
         return self.in_job(raw, scope, mark) or made
 
@@ -449,6 +450,11 @@ class Rewriter:
         for at, it in enumerate(value):
             listed.add(source_name(it, *whole) if isinstance(it, str) else it, value.line_at(at))
         return listed
+
+
+def takes_any(raw: Fields, names: Dict[str, Any]) -> bool:
+    """Says whether an input may be of any type: only node tells a number with a fraction, or what has one in it, from other values there."""
+    return any(mentions(it, ("Any",)) for it in kinds_of(raw.get("inputs"), names).values())
 
 
 def is_named(inputs: Any, name: str) -> bool:

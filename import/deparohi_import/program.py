@@ -14,6 +14,7 @@ from .importing import Import
 from .pattern import Pattern
 from .requirements import FORCED
 from .versions import UnknownVersion
+from .visible import visible
 
 UNSUPPORTED, FAILED, USAGE = 33, 1, 3
 # The options, as the command `deparohi` passes them on.
@@ -68,6 +69,8 @@ def words_of(arguments: List[str]) -> Any:
     parser.add_argument("--leave-javascript", action="store_true", help="leave JavaScript also where node, which can evaluate it, is in PATH")
     for name, option in FORCED.items():
         parser.add_argument(option, dest="forced", action="append_const", const=name, default=[], help=f"take {name} for a hint, which the runner ignores")
+    refuse = parser.error
+    parser.error = lambda text: refuse(visible(text))  # type: ignore
     return parser.parse_args(arguments)
 
 
@@ -79,15 +82,14 @@ def choices_of(words: Any) -> Choices:
 def main(arguments: List[str]) -> int:
     status, written = made_of(arguments)
     for it in written:
-        print(it)
+        print(for_stdout(it))
     return status or asked(*written)
 
 
-def made_of(arguments: List[str]) -> Tuple[int, List[str]]:
-    """Imports, and returns the status, and the paths of what was written."""
-    for stream in (sys.stdout, sys.stderr):
-        # A name of a file need not be UTF-8.
-        stream.reconfigure(errors="surrogateescape")  # type: ignore
+def made_of(arguments: List[str], mode: int = 0o777) -> Tuple[int, List[str]]:
+    """Imports, and returns the status, and the paths of what was written. A folder that is made has this mode, as far as the user gives rights."""
+    # A name of a file need not be UTF-8.
+    sys.stdout.reconfigure(errors="surrogateescape")  # type: ignore
     try:
         words = words_of(arguments)
     except SystemExit as ended:
@@ -97,21 +99,30 @@ def made_of(arguments: List[str]) -> Tuple[int, List[str]]:
         print("deparohi-import: no YAML library: install python3-ruamel.yaml or python3-yaml", file=sys.stderr)
         return USAGE, []
     try:
-        return imported(words)
+        return imported(words, mode)
     except UnknownVersion as fault:
-        print(f"left: {fault}", file=sys.stderr)
+        say(f"left: {fault}")
         return UNSUPPORTED, []
     except ImportFault as fault:
-        print(f"wrong: {fault}", file=sys.stderr)
+        say(f"wrong: {fault}")
     except RecursionError:
-        print(f"wrong: {words.file}: processes or types nest too deep", file=sys.stderr)
+        say(f"wrong: {words.file}: processes or types nest too deep")
     except MemoryError:
-        print(f"wrong: {words.file}: there is not enough memory to read it", file=sys.stderr)
+        say(f"wrong: {words.file}: there is not enough memory to read it")
     return FAILED, []
 
 
-def imported(words: Any) -> Tuple[int, List[str]]:
-    folder = Folder(words.output)
+def say(text: str) -> None:
+    print(visible(text), file=sys.stderr)
+
+
+def for_stdout(text: str) -> str:
+    """Returns a line for standard output: as it is, or as a terminal shows it."""
+    return visible(text) if sys.stdout.isatty() else text
+
+
+def imported(words: Any, mode: int) -> Tuple[int, List[str]]:
+    folder = Folder(words.output, mode)
     one = Import(folder, set(words.forced), choices_of(words))
     name = one.document(words.file)
     if words.inputs is not None:
@@ -142,7 +153,7 @@ def asked(document: str = "", inputs: Optional[str] = None) -> int:
 
 def report_of(findings: Findings, file: str) -> str:
     """Returns the report: what is left and wrong first, then what was rewritten and what is ignored."""
-    lines = [f"{file}: {'this runner should take it' if not findings.status() else 'this runner refuses it'}"]
+    lines = [f"{visible(file)}: {'this runner should take it' if not findings.status() else 'this runner refuses it'}"]
     for kind in ("wrong", "left", "rewritten", "ignored"):
         lines += [it.text() for it in findings.of(kind)]
     return "\n".join(lines) + "\n"

@@ -8,16 +8,19 @@ from typing import Any, List, Optional, Tuple
 from . import yaml_library
 from .fault import ImportFault
 from .marked import Fields, Items
-from .yaml_reader import MOST_NESTING, read_yaml
+from .yaml_reader import HALF, MOST_NESTING, is_half, read_yaml
 
 # What is read within 10 seconds, with the library's parser in C and without it.
 MOST_BYTES = (4 << 20) if yaml_library.FAST else (1 << 19)
 
 
 def read_text(path: str) -> str:
-    """Returns the text of a regular file within the limit of bytes."""
+    """Returns the text of a regular file within the limit of bytes. Nothing else is opened, as a pipe, on which it would wait."""
     try:
-        with open(path, "rb") as it:
+        if not stat.S_ISREG(os.stat(path).st_mode):
+            raise ImportFault("this is not a regular file", path)
+        with open(path, "rb", opener=lambda name, flags: os.open(name, flags | os.O_NONBLOCK | os.O_NOCTTY)) as it:
+            # (another one may stand there since)
             if not stat.S_ISREG(os.fstat(it.fileno()).st_mode):
                 raise ImportFault("this is not a regular file", path)
             found = it.read(MOST_BYTES + 1)
@@ -90,10 +93,8 @@ def marked_json(data: Any, path: str, depth: int) -> Any:
 
 def whole_text(text: str, path: str) -> str:
     """Returns a text of JSON, or raises an ImportFault where it has half of a pair of surrogates, which no UTF-8 has."""
-    try:
-        text.encode("utf-8")
-    except UnicodeEncodeError:
-        raise ImportFault("a text has half of a pair of surrogates", path) from None
+    if is_half(text):
+        raise ImportFault(HALF, path)
     return text
 
 

@@ -4,9 +4,10 @@ import os
 import re
 from typing import Any, Dict, List, Optional
 
+from .fault import ImportFault
 from .marked import Fields, Items, copied, list_of, object_of
 from .pattern import Pattern
-from .places import path_of, url_of
+from .places import NotAFile, path_of, url_of
 from .references import has_expression
 
 TEXT = r"""(?:'([^'\\$]*)'|"([^"\\$]*)")"""
@@ -58,11 +59,17 @@ def with_companions(value: Any) -> Any:
             value[at] = with_companions(it)
     if not isinstance(value, Fields) or value.get("class") != "File" or "secondaryFiles" in value or not isinstance(value.get("location"), str):
         return value
-    path = path_of(value["location"], value.file)
-    folder, name = os.path.split(path)
+    try:
+        folder, name = os.path.split(path_of(value["location"], value.file))
+        listed = os.listdir(folder) if os.path.isdir(folder) else []
+    except NotAFile:
+        # (which is found where the value is rewritten)
+        return value
+    except OSError as error:
+        raise ImportFault(f"the folder {folder} can't be listed: {error.strerror}", value.file, value.line) from None
     stem = name.partition(".")[0] or name
-    if os.path.isdir(folder):
-        names = sorted(it for it in os.listdir(folder) if it.startswith(stem) and it != name and os.path.isfile(os.path.join(folder, it)))
+    if listed:
+        names = sorted(it for it in listed if it.startswith(stem) and it != name and os.path.isfile(os.path.join(folder, it)))
         found = [object_of(value, of_class="File", location=url_of(os.path.join(folder, it))) for it in names]
         if found:
             value.put("secondaryFiles", list_of(value, found))

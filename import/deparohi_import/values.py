@@ -7,7 +7,7 @@ from .findings import LEFT, REWRITTEN, WRONG, Findings
 from .folder import Folder
 from .marked import Fields, Items
 from .names import class_name
-from .places import NotAFile, path_of, url_of
+from .places import NotAFile, is_name, path_of, url_of
 
 GREATEST = 2**63
 
@@ -58,6 +58,8 @@ class Values:
         """Returns the location of a File or Directory, which a literal is given here."""
         location, path = value.get("location"), value.get("path")
         if isinstance(path, str) and not isinstance(location, str):
+            if "\0" in path:
+                self.findings.add(WRONG, value, "path", "location", "a path has a zero character")
             return url_of(os.path.normpath(os.path.join(os.path.dirname(value.file), path)))
         if isinstance(location, str) and not location.startswith("_:"):
             try:
@@ -80,17 +82,21 @@ class Values:
         return url_of(self.make_file(name, value["contents"]))
 
     def literal_folder(self, value: Fields, file: Fields) -> Any:
-        name, entries = self.name_of(value, "folder"), []
+        name, entries = self.name_of(value, "folder"), {}
         for it in file.pop("listing"):
             path = self.path_below(it, value.file)
             if path is None:
                 self.findings.add(LEFT, value, "listing", "Directory literal", "an entry of a literal folder is no file on this machine")
                 return None
-            entries.append((str(it.get("basename") or os.path.basename(path)), path))
+            entry = it.get("basename") or os.path.basename(path)
+            if not is_name(entry):
+                self.findings.add(WRONG, it, "basename", "basename", f"{entry} is no name of a file in a folder")
+            elif entries.setdefault(entry, path) != path:
+                self.findings.add(WRONG, it, None, "repeated name", f"two files of the folder {name} have the name {entry}")
         if "basename" not in file:
             file.put("basename", name)
         self.findings.add(REWRITTEN, value, None, "Directory literal", f"its listing is written to the folder {name}, as links to its files")
-        return url_of(self.make_folder(name, entries))
+        return url_of(self.make_folder(name, list(entries.items())))
 
     def path_below(self, entry: Any, file: str) -> Any:
         """Returns the path of an entry of a listing, or None where it has none on this machine."""
@@ -102,5 +108,4 @@ class Values:
 
     def name_of(self, value: Fields, other: str) -> str:
         name = value.get("basename")
-        usable = isinstance(name, str) and name not in ("", ".", "..") and "/" not in name and "\0" not in name
-        return str(name) if usable else other
+        return str(name) if is_name(name) else other

@@ -13,6 +13,7 @@ MOST_CHARACTERS = 16 << 20
 MERGE = "<<"
 # The parser in C refuses some YAML, as `[int?]`. What it refuses is tried again by the other one, up to this length.
 MOST_SLOW = 1 << 19
+HALF = "a text has half of a pair of surrogates"
 
 
 class Frame:
@@ -62,6 +63,9 @@ class Builder:
 
     def scalar(self, event: Any, line: int) -> None:
         self.count(1, len(event.value), line)
+        # (the parser in C gives none)
+        if not event.value.isascii() and is_half(event.value):
+            raise self.fault(HALF, line)
         value = self.value_of(event, line)
         if event.anchor:
             self.anchors[event.anchor], self.sizes[event.anchor] = value, (1, len(event.value))
@@ -152,6 +156,15 @@ def read_yaml(text: str, file: str) -> Any:
             except YAMLError:
                 pass
         raise ImportFault(words_of(error, text), file, line_of(error)) from None
+
+
+def is_half(text: str) -> bool:
+    """Says whether a text has half of a pair of surrogates, which no UTF-8 has."""
+    try:
+        text.encode("utf-8")
+    except UnicodeEncodeError:
+        return True
+    return False
 
 
 def built(events: Iterator[Any], file: str) -> Any:

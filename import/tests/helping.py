@@ -2,11 +2,14 @@
 
 import json
 import os
+import resource
+import subprocess
 import sys
 import tempfile
+import time
 import unittest
 import unittest.mock
-from typing import Any, Dict, List
+from typing import Any, Dict, List, Tuple
 
 HERE = os.path.dirname(os.path.dirname(os.path.realpath(__file__)))
 TOP = os.path.dirname(HERE)
@@ -22,6 +25,13 @@ TOOL = """cwlVersion: v1.2
 class: CommandLineTool
 baseCommand: echo
 """
+SECONDS, BYTES = 10, 1 << 30
+
+
+def program() -> str:
+    """Returns the program deparohi that DEPAROHI names, or the built one, or nothing."""
+    built = os.path.join(TOP, "crates", "cwl_main", "out", "cwl_main")
+    return os.environ.get("DEPAROHI") or (built if os.access(built, os.X_OK) else "")
 
 
 class InFolder(unittest.TestCase):
@@ -65,4 +75,25 @@ class InFolder(unittest.TestCase):
         return [f"{it.feature} {it.line}" for it in self.findings.all if it.kind in (LEFT, WRONG)]
 
 
-__all__ = ["HERE", "INPUTS", "InFolder", "TOOL", "TOP"]
+class Started(InFolder):
+    """A test that starts the programs of import/ as a user does."""
+
+    def start(self, *words: str, name: str = "deparohi-import") -> Tuple[int, List[str], str]:
+        """Runs a program of import/ within the limits, and returns its status, its lines and what it said."""
+        front = [sys.executable] if name == "deparohi-import" else []
+        room = {"PATH": os.environ["PATH"], "DEPAROHI": program() or "/bin/false", "TMPDIR": self.path, "LC_ALL": "C"}
+
+        def limited() -> None:
+            resource.setrlimit(resource.RLIMIT_AS, (BYTES, BYTES))
+
+        begun = time.monotonic()
+        ended = subprocess.run(
+            [*front, os.path.join(HERE, name), *words], stdin=subprocess.DEVNULL, stdout=subprocess.PIPE, stderr=subprocess.PIPE,
+            universal_newlines=True, errors="surrogateescape", cwd=self.path, env=room, preexec_fn=limited if front else None, timeout=6 * SECONDS,
+        )
+        # A machine that proves beside this takes longer: processor time is what counts.
+        self.assertLess(min(time.monotonic() - begun, 6 * SECONDS), 6 * SECONDS)
+        return ended.returncode, ended.stdout.splitlines(), ended.stderr
+
+
+__all__ = ["HERE", "INPUTS", "InFolder", "SECONDS", "Started", "TOOL", "TOP", "program"]

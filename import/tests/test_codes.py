@@ -6,8 +6,7 @@ import subprocess
 import unittest
 from typing import Any, Dict, List, Tuple
 
-from .helping import HERE, TOP, InFolder
-from .test_program import program
+from .helping import HERE, TOP, InFolder, program
 
 TOOL: Dict[str, Any] = {"cwlVersion": "v1.2", "class": "CommandLineTool", "baseCommand": "true", "inputs": [], "outputs": []}
 REMOTE = {"class": "File", "location": "http://example.org/x"}

@@ -5,8 +5,7 @@ import os
 import subprocess
 import unittest
 
-from .helping import HERE, InFolder
-from .test_program import program
+from .helping import HERE, InFolder, program
 
 from deparohi_import import node
 from deparohi_import.folder import Folder

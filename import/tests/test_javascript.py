@@ -8,9 +8,8 @@ import os
 import subprocess
 import unittest
 
-from .helping import HERE, TOOL, InFolder
+from .helping import HERE, TOOL, InFolder, program
 from .test_examples import plain
-from .test_program import program
 
 from deparohi_import import node
 from deparohi_import.choices import Choices

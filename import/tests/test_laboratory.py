@@ -10,9 +10,8 @@ import subprocess
 import unittest
 from typing import Any, Dict, List
 
-from .helping import HERE, TOOL, TOP, InFolder
+from .helping import HERE, TOOL, TOP, InFolder, program
 from .plain_values import cases, files_of, plain_texts
-from .test_program import program
 
 from deparohi_import import node
 

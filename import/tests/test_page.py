@@ -8,8 +8,7 @@ import sys
 import unittest
 from typing import Dict, List, Tuple
 
-from .helping import HERE, TOP, InFolder
-from .test_program import program
+from .helping import HERE, TOP, InFolder, program
 
 from deparohi_import import node
 

@@ -3,41 +3,13 @@
 import json
 import os
 import resource
-import subprocess
-import sys
-import time
-from typing import List, Tuple
 
-from .helping import HERE, TOOL, TOP, InFolder
+from .helping import SECONDS, TOOL, Started, program
 
-SECONDS, BYTES = 10, 1 << 30
 ENDS = "inputs: []\noutputs: []\n"
 
 
-def program() -> str:
-    """Returns the program deparohi that DEPAROHI names, or the built one, or nothing."""
-    built = os.path.join(TOP, "crates", "cwl_main", "out", "cwl_main")
-    return os.environ.get("DEPAROHI") or (built if os.access(built, os.X_OK) else "")
-
-
-class Program(InFolder):
-    def start(self, *words: str, name: str = "deparohi-import") -> Tuple[int, List[str], str]:
-        """Runs a program of import/ within the limits, and returns its status, its lines and what it said."""
-        front = [sys.executable] if name == "deparohi-import" else []
-        room = {"PATH": os.environ["PATH"], "DEPAROHI": program() or "/bin/false", "TMPDIR": self.path, "LC_ALL": "C"}
-
-        def limited() -> None:
-            resource.setrlimit(resource.RLIMIT_AS, (BYTES, BYTES))
-
-        begun = time.monotonic()
-        ended = subprocess.run(
-            [*front, os.path.join(HERE, name), *words], stdin=subprocess.DEVNULL, stdout=subprocess.PIPE, stderr=subprocess.PIPE,
-            universal_newlines=True, cwd=self.path, env=room, preexec_fn=limited if front else None, timeout=6 * SECONDS,
-        )
-        # A machine that proves beside this takes longer: processor time is what counts.
-        self.assertLess(min(time.monotonic() - begun, 6 * SECONDS), 6 * SECONDS)
-        return ended.returncode, ended.stdout.splitlines(), ended.stderr
-
+class Program(Started):
     def fails(self, text: str, status: int, words: str) -> None:
         self.write("main.cwl", text)
         before = resource.getrusage(resource.RUSAGE_CHILDREN)

@@ -6,8 +6,7 @@ import subprocess
 import sys
 import unittest
 
-from .helping import HERE, TOP, InFolder
-from .test_program import program
+from .helping import HERE, TOP, InFolder, program
 
 from deparohi_import.standard import STANDARD
 from deparohi_import.table import OBJECTS

@@ -26,10 +26,6 @@ const isNumber = (it) => typeof it === "number" || it instanceof Exact;
 // An object on which every name is its own, as of an input that is called constructor.
 const plainObject = (entries) => Object.assign(Object.create(null), Object.fromEntries(entries));
 
-function withField(object, name, value) {
-  Object.defineProperty(object, name, { value, enumerable: true, configurable: true, writable: true });
-}
-
 // Reads JSON, with the text of each number that has a fraction, or that JavaScript would round.
 function parsed(text) {
   const exact = (it) => `{"${NUMBER}":"${/[.eE]/.test(it) ? pythonText(Number(it)) : it}"}`;
@@ -57,9 +53,9 @@ function pythonText(number) {
   return `${sign}${whole}.${digits.slice(exponent + 1) || "0"}`;
 }
 
-// What JavaScript gave, with its fractions as exact texts.
+// What JavaScript gave, with its fractions as exact texts, and large numbers with the digits that JavaScript writes.
 function received(it) {
-  if (typeof it === "number") return Number.isInteger(it) && Math.abs(it) < 1e21 ? (Number.isSafeInteger(it) ? it : new Exact(BigInt(it).toString())) : new Exact(pythonText(it));
+  if (typeof it === "number") return Number.isInteger(it) && Math.abs(it) < 1e21 ? (Number.isSafeInteger(it) ? it : new Exact(String(it))) : new Exact(pythonText(it));
   if (Array.isArray(it)) return it.map(received);
   return isObject(it) ? plainObject(Object.entries(it).map(([key, value]) => [key, received(value)])) : it;
 }

@@ -52,8 +52,7 @@ function encoded(value, type) {
   if (Array.isArray(value)) return value.map((it) => encoded(it, (memberOf(type, "array") || { items: "Any" }).items));
   if (!isObject(value) || isFile(value)) return value;
   const record = memberOf(type, "record"), types = new Map(record ? fieldsOf(record).map((it) => [it.name, it.type]) : []);
-  const made = {};
-  for (const [key, it] of Object.entries(value)) withField(made, key, encoded(it, types.has(key) ? types.get(key) : "Any"));
+  const made = plainObject(Object.entries(value).map(([key, it]) => [key, encoded(it, types.has(key) ? types.get(key) : "Any")]));
   for (const key of types.keys()) if (!(key in made)) made[key] = null;
   return made;
 }

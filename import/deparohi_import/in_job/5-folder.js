@@ -1,14 +1,17 @@
 // InitialWorkDirRequirement: what the working folder has before the command starts.
 
-// The entries of a listing as Files and Directories, each with its name, and whether it may be written.
+// The entries of a listing as Files and Directories, each with its name, whether it may be written, and whether it leaves its secondary
+// files where they are: in cwltool they come along with a file that a reference names, which keeps its name and isn't written alone.
 function entriesOf(listing, expressions, isOld) {
-  const made = [];
-  const add = (it, entryname, writable) => {
+  const made = [], own = new Set();
+  visit(expressions.inputs, (it) => own.add(it));
+  const add = (it, entryname, writable, isAlone = false) => {
     if (it === null || it === undefined) return;
     if (Array.isArray(it)) return it.forEach((one) => add(one, entryname, writable));
     if (isObject(it) && it.entry !== undefined && !isFile(it)) return add(textOrFile(it.entry, it.entryname), it.entryname, it.writable);
     if (!isFile(it)) fail(`an entry of InitialWorkDirRequirement is no File and no Directory: ${pythonJson(it).slice(0, 200)}`);
-    made.push({ file: it, name: entryname || it.basename, writable: writable === undefined ? Boolean(it.writable) : Boolean(writable) });
+    const mayWrite = writable === undefined ? Boolean(it.writable) : Boolean(writable);
+    made.push({ file: it, name: entryname || it.basename, writable: mayWrite, isAlone: isAlone || !own.has(it) });
   };
   const textOrFile = (value, name) => (isFile(value) || value === null ? value : plainObject([["class", "File"], ["basename", name], ["contents", typeof value === "string" ? value : pythonJson(value)]]));
   const evaluatedListing = typeof listing === "string" ? [listing] : listing;
@@ -28,19 +31,22 @@ function entriesOf(listing, expressions, isOld) {
     const name = it.entryname === undefined || it.entryname === null ? undefined : expressions.value(it.entryname);
     if (name !== undefined && typeof name !== "string") fail("an entryname is no text");
     if (value !== null && !isFile(value) && !isList && !name) fail("an entry that is a text has no entryname");
-    add(isList ? value : textOrFile(value, name), name, writable);
+    add(isList ? value : textOrFile(value, name), name, writable, Boolean(name) || writable);
   }
   return made;
 }
 
-// Puts the entries into the folder, and gives the inputs that are among them their new paths.
+// Puts the entries into the folder, and gives the inputs that are among them their new paths. Returns by the paths that they would have
+// the secondary files that stay where they are: they still are those of an output.
 function stageFolder(plan, expressions, outdir) {
-  if (plan.workdir === undefined) return;
-  const moved = new Map();
-  for (const { file, name, writable } of entriesOf(plan.workdir, expressions, expressions.isOld)) {
+  const moved = new Map(), left = new Map();
+  if (plan.workdir === undefined) return left;
+  for (const { file, name, writable, isAlone } of entriesOf(plan.workdir, expressions, expressions.isOld)) {
     const at = path.normalize(String(name));
     if (path.isAbsolute(at) || at === ".." || at.startsWith("../")) fail(`the entry ${name} is outside of the working folder`);
-    stageOne(file, path.join(outdir, at), writable, moved);
+    const to = path.join(outdir, at), stays = (file.secondaryFiles || []).filter((it) => isAlone && it.path !== undefined);
+    for (const it of stays) left.set(path.join(path.dirname(to), it.basename), it.path);
+    stageOne({ ...file, secondaryFiles: (file.secondaryFiles || []).filter((it) => !stays.includes(it)) }, to, writable, moved);
   }
   visit(expressions.inputs, (it) => {
     if (!moved.has(it.path)) return;
@@ -49,6 +55,7 @@ function stageFolder(plan, expressions, outdir) {
     if (listing !== undefined) listed(it, true);
   });
   expressions.changed();
+  return left;
 }
 
 function stageOne(file, at, writable, moved) {

@@ -36,12 +36,19 @@ function globbed(outdir, pattern) {
       return exists(at) && fs.statSync(at).isDirectory() ? fs.readdirSync(at).filter((it) => wanted.test(it) && exists(path.join(at, it))).map((it) => path.join(at, it)) : [];
     });
   }
-  return found.sort((a, b) => Buffer.compare(Buffer.from(a), Buffer.from(b)));
+  // In cwltool the order is that of the URLs.
+  return found.map((it) => [urlOf(it), it]).sort(([a], [b]) => (a < b ? -1 : a > b ? 1 : 0)).map(([, it]) => it);
+}
+
+// The path that a location names, where it is one of this machine: a relative one counts from the output folder.
+function placeOf(location) {
+  if (typeof location !== "string") return undefined;
+  return location.startsWith("file://") ? decodeURIComponent(location.slice(7)) : /^[\w+.-]*:/.test(location) ? undefined : location;
 }
 
 class Outputs {
-  constructor(plan, expressions, outdir) {
-    Object.assign(this, { plan, expressions, outdir, links: 0, names: new Map() });
+  constructor(plan, expressions, outdir, left = new Map()) {
+    Object.assign(this, { plan, expressions, outdir, left, links: 0, names: new Map() });
   }
 
   collected() {
@@ -114,7 +121,8 @@ class Outputs {
         const said = hasExpression(one.pattern) ? this.expressions.value(one.pattern, it) : secondaryName(it.basename, one.pattern);
         for (const name of Array.isArray(said) ? said : [said]) {
           if (!name) continue;
-          const at = isFile(name) ? name.path : path.join(path.dirname(it.path), name);
+          const beside = isFile(name) ? name.path : path.join(path.dirname(it.path), name);
+          const at = exists(beside) ? beside : this.left.get(beside) || beside;
           if (exists(at) && !it.secondaryFiles.some((other) => other.path === at)) it.secondaryFiles.push(ofPath(at));
           else if (!exists(at) && required) fail(`the secondary file ${path.basename(at)} of ${it.basename} is missing`);
         }
@@ -126,7 +134,7 @@ class Outputs {
   // Says a File or Directory as the runner reads it: by its name in the folder. What lies elsewhere gets a link there.
   told(it) {
     const basename = it.basename;
-    let at = it.path === undefined && typeof it.location === "string" && it.location.startsWith("file://") ? decodeURIComponent(it.location.slice(7)) : it.path;
+    let at = it.path === undefined ? placeOf(it.location) : it.path;
     if (at === undefined || (it.class === "Directory" && Array.isArray(it.listing) && !exists(at))) at = this.written(it);
     at = path.resolve(this.outdir, at);
     if (!exists(at)) fail(`the ${it.class} ${at} of an output isn't there`);
@@ -180,12 +188,12 @@ class Outputs {
   // Writes cwl.output.json with these values.
   write(values) {
     const tell = (it) => (isFile(it) ? this.told(it) : Array.isArray(it) ? it.map(tell) : isObject(it) ? plainObject(Object.entries(it).map(([key, one]) => [key, tell(one)])) : it);
-    const made = {};
+    const made = plainObject([]);
     for (const { name, type } of this.plan.outputs) {
       const value = values[name] === undefined ? null : values[name];
       const kinds = membersOf(type).map((it) => (it === "stdout" || it === "stderr" ? "File" : it));
       if (!this.plan.isStep && !fits(value, kinds)) fail(`the output ${name} isn't of its type: ${pythonJson(value).slice(0, 200)}`);
-      withField(made, name, encoded(tell(value), type));
+      made[name] = encoded(tell(value), type);
     }
     fs.writeFileSync(path.join(this.outdir, "cwl.output.json"), jsonOf(made));
   }

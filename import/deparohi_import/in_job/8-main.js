@@ -3,7 +3,9 @@
 // Linux takes no word of more bytes, its end counted.
 const MOST_IN_WORD = 131072;
 
+// A number that is asked for, which 0 itself isn't.
 function numberOf(expressions, it, name) {
+  if (it === 0) return undefined;
   const value = hasExpression(it) ? expressions.value(it) : it;
   if (value === undefined || value === null) return undefined;
   const number = isNumber(value) ? Number(wordOf(value)) : Number(value);
@@ -26,7 +28,7 @@ function resources(plan, expressions) {
 }
 
 function variables(plan, expressions) {
-  const made = { ...process.env };
+  const made = plainObject(Object.entries(process.env));
   for (const [name, text] of plan.environment) {
     const value = expressions.value(text);
     if (typeof value !== "string") fail(`the variable ${name} is no text: ${pythonJson(value)}`);
@@ -110,7 +112,7 @@ function succeeded(plan, code) {
 
 function ranTool(plan, expressions, folders) {
   resources(plan, expressions);
-  stageFolder(plan, expressions, folders.outdir);
+  const left = stageFolder(plan, expressions, folders.outdir);
   const ended = started(plan, expressions, folders);
   if (ended.late) {
     process.stderr.write(`after ${ended.late} seconds, its time limit, the command was ended: ${ended.shown}\n`);
@@ -125,9 +127,9 @@ function ranTool(plan, expressions, folders) {
     process.stderr.write(`the command ended with ${ended.code}: ${ended.shown}\n`);
     process.exit(ended.code);
   }
-  expressions.runtime.exitCode = ended.code;
+  if (plan.version !== "v1.0") expressions.runtime.exitCode = ended.code;
   Object.assign(plan, { stdout: ended.stdout, stderr: ended.stderr });
-  const outputs = new Outputs(plan, expressions, folders.outdir);
+  const outputs = new Outputs(plan, expressions, folders.outdir, left);
   outputs.write(outputs.collected());
   if (ended.code !== 0) process.exit(ended.code);
 }
