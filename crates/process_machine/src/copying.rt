@@ -1,24 +1,34 @@
 //! Copies of files and folders, which have to be as they were told.
 
 use crate::identity::names;
-use crate::layout::joined;
+use crate::layout::{joined, make_along};
 use crate::listing::sum_at;
 use crate::making::{
-    give_rights_of, keep_permissions, made_anew, make_folder_as, new_file_in, new_folder_in,
+    give_rights_of, has_rights_of, keep_attributes, made_anew, make_folder_as, new_file_in,
+    new_folder_in,
 };
 use crate::measuring::measure_of;
 use crate::missed::note_changed;
 use crate::past::{Known, Past, known_of, name_in};
 use crate::summing::{copy_as_found, is_as_found};
-use crate::tree::is_folder;
+use crate::tree::{is_folder, is_own_folder};
 use crate::trouble::{Hindrance, Trouble, or_trouble};
 use crate::world::World;
 use plain_data::Text;
 use staging::Found;
 use std::alloc::{AllocError, Global};
-use std::fs::{File, OpenFile};
+use std::fs::{File, Metadata, OpenFile};
 use std::io::{Read, Take, Write};
 use std::{fs, mem};
+
+// A folder that is filled.
+#[derive(Clone, Copy, Debug, PartialEq, Eq)]
+enum Folder {
+    /// One of our own, which is empty.
+    New,
+    /// One that was there: what no file takes the place of stays in it.
+    There,
+}
 
 /// What is copied is not as it was told.
 const CHANGED: Trouble = Trouble::Hindered(Hindrance::Changed);
@@ -29,9 +39,10 @@ const CHANGED: Trouble = Trouble::Hindered(Hindrance::Changed);
 /// it is trouble, and `changed` is the path of the first file or folder that is not. What no call told of is copied as it is.
 ///
 /// The copy is made beside the path under a name of our own, and then takes its place, so what is at the path is whole at each moment.
-/// Replaces a file or link that is at the path a file is copied to; what the link points to is left alone. A folder
-/// that is at the path stays as it is, and so does a file where a folder is copied to: both are trouble. Where the copy
-/// fails, nothing of it is left. A file that is copied to where it is stays as it is.
+/// Replaces a file or link that is at the path a file is copied to; what the link points to is left alone. A file with the same bytes
+/// and permissions that is there stays. A folder that is there stays as it is, and so does a file or link where a folder is copied to: both are
+/// trouble. Into a folder that is there, a folder that a call has told of is copied file by file; what else is there stays.
+/// Where the copy of a file or of a new folder fails, nothing of it is left. A file that is copied to where it is stays as it is.
 pub(crate) fn copy<R: World>(
     rt: &R,
     past: Past<'_>,
@@ -55,6 +66,10 @@ fn copy_untold<R: World>(
 ) -> Result<(), Trouble> {
     let measure = measure_of(rt, source)?;
     match known_of(&measure) {
+        // Nobody has looked whether what is there may be replaced.
+        Some(Known::Folder(_, _)) if is_own_folder(rt, target) => {
+            Err(Trouble::Hindered(Hindrance::Taken))
+        }
         Some(known) => copy_known(rt, known, source, target, changed),
         None => Err(Trouble::Failed),
     }
@@ -90,8 +105,13 @@ fn file_of(alloc: Global, size: u64, sum: &Text) -> Result<Found, AllocError> {
 
 fn copy_file<R: World>(rt: &R, file: &Found, source: &str, target: &str) -> Result<(), Trouble> {
     check_kind(rt, source, false)?;
-    if names(rt, source, target) {
-        return check_sum(rt, file, source);
+    if let Ok(there) = fs::symlink_metadata(rt, target) {
+        if names(rt, source, target) {
+            return check_sum(rt, file, source);
+        }
+        if is_copy(rt, file, source, &there, target)? {
+            return Ok(());
+        }
     }
     let (path, mut writer) = new_file_in(rt, folder_of(target))?;
     let filled = fill(rt, file, source, &mut writer);
@@ -109,6 +129,24 @@ fn check_sum<R: World>(rt: &R, file: &Found, path: &str) -> Result<(), Trouble> 
         Ok(())
     } else {
         Err(CHANGED)
+    }
+}
+
+// Whether what is at a path is what a copy of this file would be. What can't be read is not.
+fn is_copy<R: World>(
+    rt: &R,
+    file: &Found,
+    source: &str,
+    there: &Metadata,
+    path: &str,
+) -> Result<bool, Trouble> {
+    if !there.is_file() || there.len() != file.size || !has_rights_of(rt, there, source)? {
+        return Ok(false);
+    }
+    match sum_at(rt, path) {
+        Ok(sum) => Ok(is_as_found(&sum, file)),
+        Err(Trouble::OutOfMemory) => Err(Trouble::OutOfMemory),
+        Err(_) => Ok(false),
     }
 }
 
@@ -131,17 +169,42 @@ fn copy_folder<R: World>(
     changed: &mut Option<Text>,
 ) -> Result<(), Trouble> {
     check_kind(rt, source, true)?;
-    // An empty folder would be replaced.
-    if fs::symlink_metadata(rt, target).is_ok() {
-        return Err(Trouble::Hindered(Hindrance::Taken));
+    match fs::symlink_metadata(rt, target) {
+        Ok(there) if there.is_dir() => {
+            fill_folder(rt, found, name, source, target, Folder::There, changed)
+        }
+        Ok(_) => Err(Trouble::Hindered(Hindrance::Taken)),
+        Err(_) => copy_new_folder(rt, found, name, source, target, changed),
     }
+}
+
+fn copy_new_folder<R: World>(
+    rt: &R,
+    found: &[Found],
+    name: &str,
+    source: &str,
+    target: &str,
+    changed: &mut Option<Text>,
+) -> Result<(), Trouble> {
     let path = new_folder_in(rt, folder_of(target))?;
-    let filled = fill_folder(rt, found, name, source, path.as_str(), changed);
+    let filled = fill_new(rt, found, name, source, path.as_str(), changed);
     let put = put_in_place(rt, path.as_str(), target, filled);
     if put.is_err() {
         let _removed = fs::remove_dir_all(rt, path.as_str());
     }
     put
+}
+
+fn fill_new<R: World>(
+    rt: &R,
+    found: &[Found],
+    name: &str,
+    source: &str,
+    folder: &str,
+    changed: &mut Option<Text>,
+) -> Result<(), Trouble> {
+    fill_folder(rt, found, name, source, folder, Folder::New, changed)?;
+    give_rights_of(rt, source, folder)
 }
 
 fn fill_folder<R: World>(
@@ -150,17 +213,43 @@ fn fill_folder<R: World>(
     name: &str,
     source: &str,
     folder: &str,
+    kind: Folder,
     changed: &mut Option<Text>,
 ) -> Result<(), Trouble> {
     for entry in found {
         if let Some(name) = name_in(entry, name) {
             let from = joined(rt.alloc(), source, name)?;
-            let copied = copy_entry(rt, entry, from.as_str(), folder, name);
+            let copied = match kind {
+                Folder::New => copy_entry(rt, entry, from.as_str(), folder, name),
+                Folder::There => merge_entry(rt, entry, from.as_str(), folder, name),
+            };
             note_changed(rt.alloc(), from.as_str(), &copied, changed);
             copied?;
         }
     }
-    give_rights_of(rt, source, folder)
+    Ok(())
+}
+
+// Copies what has to be as it was found to this name below a folder that others may use. Nothing is followed out of that folder.
+fn merge_entry<R: World>(
+    rt: &R,
+    entry: &Found,
+    from: &str,
+    folder: &str,
+    name: &str,
+) -> Result<(), Trouble> {
+    if let Some((way, _)) = name.rsplit_once('/') {
+        make_along(rt, folder, way)?;
+    }
+    let path = joined(rt.alloc(), folder, name)?;
+    if !entry.is_dir {
+        return copy_file(rt, entry, from, path.as_str());
+    }
+    check_kind(rt, from, true)?;
+    if is_own_folder(rt, path.as_str()) {
+        return Ok(());
+    }
+    make_folder_as(rt, from, folder, name)
 }
 
 /// Copies what has to be as it was found, under this name below a folder. The folders between are made where they are absent, and the
@@ -206,7 +295,7 @@ fn fill_from<F: Read + Write + OpenFile>(
     writer: &mut F,
 ) -> Result<(), Trouble> {
     copy_as_found(alloc, file, reader, writer)?;
-    keep_permissions(reader.get_ref(), writer)
+    keep_attributes(reader.get_ref(), writer)
 }
 
 // The folder that has what is at a path.

@@ -2,6 +2,7 @@
 
 use crate::archive::{key_folder, stores_folder};
 use crate::layout::joined;
+use crate::tree::is_own_folder;
 use crate::world::World;
 use std::alloc::AllocError;
 use std::{fs, io};
@@ -19,14 +20,6 @@ pub(crate) fn clear_stores<R: World>(rt: &R, archive: &str, key: &str) -> Result
     clear_each(rt, stores.as_str(), target.as_str())?;
     let _removed = fs::remove_dir(rt, stores.as_str());
     Ok(())
-}
-
-// Whether there is a folder at a path, and no link to one.
-fn is_own_folder<R: World>(rt: &R, path: &str) -> bool {
-    match fs::symlink_metadata(rt, path) {
-        Ok(metadata) => metadata.is_dir(),
-        Err(_) => false,
-    }
 }
 
 fn clear_each<R: World>(rt: &R, stores: &str, target: &str) -> Result<(), AllocError> {

@@ -3,25 +3,30 @@
 use crate::identity::{FileId, file_at, file_behind, is_id, names};
 use crate::layout::{copy_all, joined};
 use crate::missed::Missed;
-use crate::past::Past;
+use crate::past::{Known, Past, name_in};
+use crate::tree::is_own_folder;
 use crate::trouble::{Hindrance, Trouble};
 use crate::world::World;
 use plain_data::Text;
 use proc_host::{Entry, HostAnswer, HostRequest};
 use staging::{Found, Measure, Move};
+use std::alloc::{AllocError, Global};
+use std::collections::BTreeMap;
 
-// What is at the target of a move, and the move's index.
-#[derive(Clone, Copy, Drop)]
-struct Standing {
-    id: FileId,
+// What a move puts at a path.
+#[derive(Drop)]
+struct Written {
+    from: String,
+    to: String,
+    // The index of the move.
     index: usize,
 }
 
-/// Copies results to their targets, each of which has to be below this folder.
+/// Copies results to their targets, each of which has to be below this folder. A folder goes into one that is at its target.
 ///
-/// What was measured is what the run was given. Where one of these files, or a guarded one, is at a target nothing is copied, since it would
-/// be replaced; nor where a guarded file would be. A result that is at its target already stays as it is. Where a copy fails, `missed` tells
-/// which.
+/// What was measured is what the run was given. Where one of these files, or a guarded one, is where a result is put nothing is copied, since
+/// it would be replaced; nor where a guarded file would be. A result that is at its target already stays as it is. Where a copy fails,
+/// `missed` tells which.
 pub(crate) fn deliver_all<R: World>(
     rt: &R,
     past: Past<'_>,
@@ -30,7 +35,7 @@ pub(crate) fn deliver_all<R: World>(
     below: &str,
     missed: &mut Missed,
 ) -> Result<(), Trouble> {
-    match spoiling(rt, past.log, guarded, moves)? {
+    match spoiling(rt, past, guarded, moves)? {
         Some((index, why)) => {
             missed.at = Some(index);
             Err(Trouble::Hindered(why))
@@ -42,52 +47,106 @@ pub(crate) fn deliver_all<R: World>(
 // The index of a move that may not be made, and why.
 fn spoiling<R: World>(
     rt: &R,
-    log: &[Entry],
+    past: Past<'_>,
     guarded: &[Text],
     moves: &[Move],
 ) -> Result<Option<(usize, Hindrance)>, Trouble> {
-    let replaced = replaced_by(rt, moves)?;
-    let measured = measured_among(rt, log, replaced.as_slice())?;
+    let written = written_by(rt, past, moves)?;
+    let replaced = replaced_by(rt, written.as_slice())?;
+    let measured = measured_among(rt, past.log, &replaced)?;
     Ok(match measured {
         Some(index) => Some((index, Hindrance::Given)),
         None => {
-            let index = guarded_among(rt, guarded, replaced.as_slice(), moves);
+            let index = guarded_among(rt, guarded, &replaced, written.as_slice());
             index.map(|index| (index, Hindrance::Guarded))
         }
     })
 }
 
-// What is at the targets, where that is not the result itself.
-fn replaced_by<R: World>(rt: &R, moves: &[Move]) -> Result<Vec<Standing>, Trouble> {
-    let mut replaced = Vec::new(rt.alloc());
+// What is put where: each target, and all in a folder that goes into one which is there.
+fn written_by<R: World>(
+    rt: &R,
+    past: Past<'_>,
+    moves: &[Move],
+) -> Result<Vec<Written>, AllocError> {
+    let mut written = Vec::new(rt.alloc());
     for (index, planned) in moves.iter().enumerate() {
-        if let Some(id) = replaced_at(rt, planned) {
-            replaced.push(Standing { id, index })?;
+        let (source, target) = (planned.source.as_str(), planned.target.as_str());
+        add_written(rt.alloc(), source, target, index, &mut written)?;
+        if is_own_folder(rt, target) {
+            add_entries(rt.alloc(), past, planned, index, &mut written)?;
+        }
+    }
+    Ok(written)
+}
+
+fn add_entries(
+    alloc: Global,
+    past: Past<'_>,
+    planned: &Move,
+    index: usize,
+    written: &mut Vec<Written>,
+) -> Result<(), AllocError> {
+    let source = planned.source.as_str();
+    let Some(Known::Folder(found, folder)) = past.known_at(source) else {
+        return Ok(());
+    };
+    for entry in found {
+        if let Some(name) = name_in(entry, folder) {
+            let from = joined(alloc, source, name)?;
+            let to = joined(alloc, planned.target.as_str(), name)?;
+            written.push(Written { from, to, index })?;
+        }
+    }
+    Ok(())
+}
+
+fn add_written(
+    alloc: Global,
+    from: &str,
+    to: &str,
+    index: usize,
+    written: &mut Vec<Written>,
+) -> Result<(), AllocError> {
+    let from = String::from_str(alloc, from)?;
+    let to = String::from_str(alloc, to)?;
+    written.push(Written { from, to, index })?;
+    Ok(())
+}
+
+// The files and links where something is put, if that is not the result itself, each with the index of its move.
+fn replaced_by<R: World>(
+    rt: &R,
+    written: &[Written],
+) -> Result<BTreeMap<FileId, usize>, AllocError> {
+    let mut replaced = BTreeMap::new(rt.alloc());
+    for it in written {
+        if let Some(id) = replaced_at(rt, it.from.as_str(), it.to.as_str()) {
+            let _other = replaced.insert(id, it.index)?;
         }
     }
     Ok(replaced)
 }
 
-fn replaced_at<R: World>(rt: &R, planned: &Move) -> Option<FileId> {
-    let target = planned.target.as_str();
-    if names(rt, planned.source.as_str(), target) {
+fn replaced_at<R: World>(rt: &R, from: &str, to: &str) -> Option<FileId> {
+    if is_own_folder(rt, to) || names(rt, from, to) {
         None
     } else {
-        file_at(rt, target)
+        file_at(rt, to)
     }
 }
 
-// The index of a move at whose target is a file that was measured.
+// The index of a move that would replace a file that was measured.
 fn measured_among<R: World>(
     rt: &R,
     log: &[Entry],
-    standing: &[Standing],
+    replaced: &BTreeMap<FileId, usize>,
 ) -> Result<Option<usize>, Trouble> {
-    if standing.is_empty() {
+    if replaced.is_empty() {
         return Ok(None);
     }
     for entry in log {
-        if let Some(index) = index_of_measured(rt, entry, standing)? {
+        if let Some(index) = index_of_measured(rt, entry, replaced)? {
             return Ok(Some(index));
         }
     }
@@ -97,11 +156,11 @@ fn measured_among<R: World>(
 fn index_of_measured<R: World>(
     rt: &R,
     entry: &Entry,
-    standing: &[Standing],
+    replaced: &BTreeMap<FileId, usize>,
 ) -> Result<Option<usize>, Trouble> {
     match (&entry.request, &entry.answer) {
         (HostRequest::Measure(path), HostAnswer::Measured(measure)) => {
-            index_in(rt, path.as_str(), measure, standing)
+            index_in(rt, path.as_str(), measure, replaced)
         }
         _ => Ok(None),
     }
@@ -112,10 +171,10 @@ fn index_in<R: World>(
     rt: &R,
     path: &str,
     measure: &Measure,
-    standing: &[Standing],
+    replaced: &BTreeMap<FileId, usize>,
 ) -> Result<Option<usize>, Trouble> {
-    match (index_at(rt, path, standing), measure) {
-        (None, Measure::Folder(found)) => index_below(rt, path, found.as_slice(), standing),
+    match (index_at(rt, path, replaced), measure) {
+        (None, Measure::Folder(found)) => index_below(rt, path, found.as_slice(), replaced),
         (index, _) => Ok(index),
     }
 }
@@ -124,11 +183,11 @@ fn index_below<R: World>(
     rt: &R,
     folder: &str,
     found: &[Found],
-    standing: &[Standing],
+    replaced: &BTreeMap<FileId, usize>,
 ) -> Result<Option<usize>, Trouble> {
     for entry in found {
         let path = joined(rt.alloc(), folder, entry.name.as_str())?;
-        if let Some(index) = index_at(rt, path.as_str(), standing) {
+        if let Some(index) = index_at(rt, path.as_str(), replaced) {
             return Ok(Some(index));
         }
     }
@@ -136,32 +195,26 @@ fn index_below<R: World>(
 }
 
 // The index for what is at a path, or what the link that is there leads to.
-fn index_at<R: World>(rt: &R, path: &str, standing: &[Standing]) -> Option<usize> {
-    match index_for(file_at(rt, path), standing) {
-        None => index_for(file_behind(rt, path), standing),
+fn index_at<R: World>(rt: &R, path: &str, replaced: &BTreeMap<FileId, usize>) -> Option<usize> {
+    match index_for(file_at(rt, path), replaced) {
+        None => index_for(file_behind(rt, path), replaced),
         index => index,
     }
 }
 
-fn index_for(found: Option<FileId>, standing: &[Standing]) -> Option<usize> {
-    let id = found?;
-    for other in standing {
-        if other.id == id {
-            return Some(other.index);
-        }
-    }
-    None
+fn index_for(found: Option<FileId>, replaced: &BTreeMap<FileId, usize>) -> Option<usize> {
+    replaced.get(&found?).copied()
 }
 
 // The index of a move that would replace what is at a guarded path, or put anything there.
 fn guarded_among<R: World>(
     rt: &R,
     guarded: &[Text],
-    standing: &[Standing],
-    moves: &[Move],
+    replaced: &BTreeMap<FileId, usize>,
+    written: &[Written],
 ) -> Option<usize> {
     for path in guarded {
-        if let Some(index) = index_on(rt, path.as_str(), standing, moves) {
+        if let Some(index) = index_on(rt, path.as_str(), replaced, written) {
             return Some(index);
         }
     }
@@ -169,20 +222,25 @@ fn guarded_among<R: World>(
 }
 
 // What is at the path is known by its number, and what is not there by its name.
-fn index_on<R: World>(rt: &R, path: &str, standing: &[Standing], moves: &[Move]) -> Option<usize> {
+fn index_on<R: World>(
+    rt: &R,
+    path: &str,
+    replaced: &BTreeMap<FileId, usize>,
+    written: &[Written],
+) -> Option<usize> {
     match file_at(rt, path) {
-        Some(_) => index_at(rt, path, standing),
-        None => index_making(rt, path, moves),
+        Some(_) => index_at(rt, path, replaced),
+        None => index_making(rt, path, written),
     }
 }
 
 // The index of a move that would make something at a path.
-fn index_making<R: World>(rt: &R, path: &str, moves: &[Move]) -> Option<usize> {
+fn index_making<R: World>(rt: &R, path: &str, written: &[Written]) -> Option<usize> {
     let (folder, name) = parted(path);
     let id = file_behind(rt, folder)?;
-    for (index, planned) in moves.iter().enumerate() {
-        if makes(rt, planned.target.as_str(), id, name) {
-            return Some(index);
+    for it in written {
+        if makes(rt, it.to.as_str(), id, name) {
+            return Some(it.index);
         }
     }
     None
@@ -192,7 +250,7 @@ fn index_making<R: World>(rt: &R, path: &str, moves: &[Move]) -> Option<usize> {
 fn makes<R: World>(rt: &R, target: &str, id: FileId, name: &str) -> bool {
     for (at, _) in target.rmatch_indices('/') {
         if let Some((folder, rest)) = target.split_at_checked(at) {
-            if goes_on_by(rest, name) && is_id(file_behind(rt, folder), id) {
+            if goes_on_by(rest, name) && is_id(file_behind(rt, or_root(folder)), id) {
                 return true;
             }
         }
@@ -203,10 +261,14 @@ fn makes<R: World>(rt: &R, target: &str, id: FileId, name: &str) -> bool {
 // The folder of a path, and its name there.
 fn parted(path: &str) -> (&str, &str) {
     match path.rsplit_once('/') {
-        Some(("", name)) => ("/", name),
-        Some((folder, name)) => (folder, name),
+        Some((folder, name)) => (or_root(folder), name),
         None => (".", path),
     }
+}
+
+// In front of what is in the root folder nothing stands.
+fn or_root(folder: &str) -> &str {
+    if folder.is_empty() { "/" } else { folder }
 }
 
 // Whether what follows a folder in a path begins with this name.

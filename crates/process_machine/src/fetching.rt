@@ -6,7 +6,7 @@ use crate::archive::{fetch_folder, key_folder, leads_below};
 use crate::cut_off::clear_stores;
 use crate::entries::{Source, take_all};
 use crate::layout::joined;
-use crate::making::{keep_permissions, made_anew, make_folder_as, make_private};
+use crate::making::{keep_attributes, made_anew, make_folder_as, make_private};
 use crate::summing::copy_told;
 use crate::trouble::Trouble;
 use crate::world::World;
@@ -144,7 +144,7 @@ fn fill<F: Read + Write + OpenFile>(
     ensures { IfOk result (λ found. found.name ≡ name.now) }
 {
     let found = copy_told(alloc, name, reader, writer)?;
-    keep_permissions(reader.get_ref(), writer)?;
+    keep_attributes(reader.get_ref(), writer)?;
     Ok(found)
 }
 

@@ -6,7 +6,7 @@ use std::rt::Files;
 use std::{fs, io};
 
 /// A file, a folder or a link, told from all others: its device, and its number there.
-#[derive(Clone, Copy, Debug, PartialEq, Eq)]
+#[derive(Clone, Copy, Debug, PartialEq, Eq, PartialOrd, Ord)]
 pub(crate) struct FileId {
     device: u64,
     number: u64,

@@ -3,7 +3,7 @@
 use crate::layout::{joined, make_along, make_own};
 use crate::trouble::{Hindrance, Trouble, or_trouble};
 use std::alloc::{AllocError, Global};
-use std::fs::{DirBuilder, File, Metadata, OpenFile, Permissions};
+use std::fs::{DirBuilder, File, FileTimes, Metadata, OpenFile, Permissions};
 use std::os::unix::fs::{DirBuilderExt, OpenOptionsExt, PermissionsExt};
 use std::rt::Files;
 use std::{fs, io};
@@ -13,6 +13,9 @@ pub(crate) const OWNERS_RIGHTS: u32 = 0o700;
 
 /// The rights that a copy takes from its source. Those that would let others act as its owner are none of them.
 const COPIED_RIGHTS: u32 = 0o777;
+
+/// All of the rights in a mode.
+const ALL_RIGHTS: u32 = 0o7777;
 
 /// The rights of a file until it is whole, so that nobody else reads what is to be private.
 const RIGHTS_OF_UNFINISHED: u32 = 0o600;
@@ -128,10 +131,25 @@ pub(crate) fn give_rights_of<R: Files>(rt: &R, source: &str, folder: &str) -> Re
     or_trouble(fs::set_permissions(rt, folder, rights))
 }
 
-/// Gives a copy the permissions of what it was read from.
-pub(crate) fn keep_permissions<F: OpenFile>(reader: &F, writer: &F) -> Result<(), Trouble> {
-    let mode = mode_of(reader.metadata())?;
-    or_trouble(writer.set_permissions(Permissions::from_mode(mode & COPIED_RIGHTS)))
+/// Gives a copy the permissions of what it was read from, and the time at which that was changed, if the system keeps times.
+pub(crate) fn keep_attributes<F: OpenFile>(reader: &F, writer: &F) -> Result<(), Trouble> {
+    let metadata = or_trouble(reader.metadata())?;
+    let rights = metadata.permissions().mode() & COPIED_RIGHTS;
+    or_trouble(writer.set_permissions(Permissions::from_mode(rights)))?;
+    if let Ok(time) = metadata.modified() {
+        let _kept = writer.set_times(FileTimes::new().set_modified(time));
+    }
+    Ok(())
+}
+
+/// Whether a file has the permissions that a copy of another one has.
+pub(crate) fn has_rights_of<R: Files>(
+    rt: &R,
+    file: &Metadata,
+    source: &str,
+) -> Result<bool, Trouble> {
+    let rights = mode_of(fs::metadata(rt, source))? & COPIED_RIGHTS;
+    Ok(file.permissions().mode() & ALL_RIGHTS == rights)
 }
 
 /// The mode of what is at a path.

@@ -265,6 +265,14 @@ pub(crate) fn is_folder<R: Files>(rt: &R, path: &str) -> Result<bool, Trouble> {
     }
 }
 
+/// Whether there is a folder at a path, and no link to one.
+pub(crate) fn is_own_folder<R: Files>(rt: &R, path: &str) -> bool {
+    match fs::symlink_metadata(rt, path) {
+        Ok(metadata) => metadata.is_dir(),
+        Err(_) => false,
+    }
+}
+
 fn name_below(alloc: Global, folder: &str, name: &str) -> Result<Text, AllocError> {
     if folder.is_empty() {
         return Text::from_text(alloc, name);
