@@ -37,8 +37,8 @@ _deparohi() {
         return
     fi
     case $command in
-    run) every="--work --outdir --slots --retries --record --archive --cache --base --rate --verbose --progress --progress-json --keep --keep-failed --validate --template --print-command $import $every" ;;
-    plan) every="--dot --work --outdir --slots --retries --record --archive --cache --base --rate $import $every" ;;
+    run) every="--work --outdir --slots --parallel --retries --record --archive --cache --base --rate --prefer-kept --verbose --progress --progress-json --keep --keep-failed --validate --template --print-command $import $every" ;;
+    plan) every="--dot --work --outdir --slots --parallel --retries --record --archive --cache --base --rate --prefer-kept $import $every" ;;
     record) every="--forget $every" ;;
     help) every="" ;;
     esac

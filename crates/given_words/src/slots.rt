@@ -44,7 +44,8 @@ fn slot_word(alloc: Global, before: &[String], word: &str, count: u64) -> Result
     String::from_str(alloc, word)
 }
 
-fn has_options(words: &[String]) -> bool
+// Whether the words are those of a command that takes slots, and options may follow.
+pub(crate) fn has_options(words: &[String]) -> bool
     ensures { result ≡ spec.has_options (map string_bytes words.now) }
 {
     takes_slots(words) && !has_word(words, "--")
