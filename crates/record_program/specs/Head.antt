@@ -1,6 +1,6 @@
 -- What the first bytes of a file and of its log say: SQLite, "Database File Format", 1.3 "The Database Header" and 4.1 "WAL File Format".
 -- Numbers have their highest byte first.
-use Rattle.std.specs.Prelude.{ℕ, ◌+◌, ◌==◌, Bool, not, ◌&&◌, ◌||◌, if◌then◌else◌, List, [], ◌∷◌, ◌++◌, length, take, nat_lt, nat_le, slice_index, nat_eq, codes, bytes_eq, Option, Some, None}
+use Rattle.std.specs.Prelude.{ℕ, ◌+◌, ◌^◌, ◌==◌, Bool, not, ◌&&◌, ◌||◌, if◌then◌else◌, List, [], ◌∷◌, ◌++◌, length, take, nat_lt, nat_le, slice_index, nat_eq, codes, bytes_eq, Option, Some, None}
 use Rattle.std.specs.List.{list_all}
 use Rattle.sqlite.specs.declared.error.Error.TheVariants.{SqliteFailure}
 use Rattle.sqlite.specs.declared.error.ErrorCode.TheVariants as code
@@ -61,6 +61,10 @@ has_log_pages bytes =
 abbrev pub log_of : List ℕ → LogHead
 log_of bytes =
     if nat_lt (length bytes) 32 || not (is_log bytes) then log.NoLog else (if has_log_pages bytes then log.Log else log.OtherPages)
+
+-- a file of so many bytes is not opened
+abbrev pub is_too_long : (bytes : ℕ) → Bool
+is_too_long bytes = nat_lt (2 ^ 36) bytes
 
 -- a log with no room for a frame: its header, that of a frame, 24 bytes, and a page of 4,096; it commits nothing
 abbrev pub is_bare_log : ℕ → Bool

@@ -1,6 +1,6 @@
 //! What the first bytes of a file and of its log say, before the store sees them.
 ghost use Rattle.std.specs.Prelude.{◌≡◌, ◌≤◌, length};
-ghost use Rattle.record_program.specs.Head.{is_blank, is_begun, has_magic, has_pages, is_utf16, is_vacuumed, form_of, head_of, is_log, has_log_pages, log_of, is_bare_log, of_log, refusal_of};
+ghost use Rattle.record_program.specs.Head.{is_blank, is_begun, has_magic, has_pages, is_utf16, is_vacuumed, form_of, head_of, is_log, has_log_pages, log_of, is_bare_log, is_too_long, of_log, refusal_of};
 
 use job_record::RecordFault;
 use sqlite::{Error, ErrorCode};
@@ -13,6 +13,9 @@ pub const LOG_HEADER: usize = 32;
 
 /// How many bytes a log with one frame has: its header, the frame's, and a page.
 const LEAST_LOG: u64 = 32 + 24 + 4_096;
+
+/// The most bytes of a file that is opened: the store keeps some for each page, whether anything is in it or not.
+const MOST_BYTES: u64 = 1 << 36;
 
 const NOT_A_DATABASE: RecordFault = RecordFault::Store(Error::SqliteFailure(
     ErrorCode::NotADatabase,
@@ -150,6 +153,13 @@ fn has_log_pages(bytes: &[u8]) -> bool
     ensures { result ≡ has_log_pages bytes.now }
 {
     bytes[8] == 0 && bytes[9] == 0 && bytes[10] == 0x10 && bytes[11] == 0
+}
+
+/// Whether a file of so many bytes is too long to be opened.
+pub fn is_too_long(bytes: u64) -> bool
+    ensures { result ≡ is_too_long bytes }
+{
+    bytes > MOST_BYTES
 }
 
 /// Whether a log of so many bytes has no room for a frame, and so commits nothing.

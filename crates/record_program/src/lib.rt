@@ -26,7 +26,7 @@ pub use closing::forgotten_for_good;
 pub use databases::Databases;
 pub use ending::{Ending, unclosed};
 pub use file::{Records, main_run};
-pub use head::{Head, LogHead, head_of, is_bare_log, log_of, refusal_of};
+pub use head::{Head, LogHead, head_of, is_bare_log, is_too_long, log_of, refusal_of};
 pub use kept::{FileLeft, FileRecord};
 pub use keys::keys_with;
 pub use lines::rows_text;

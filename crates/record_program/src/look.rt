@@ -1,7 +1,9 @@
 //! A file and its log, looked at before the store opens them.
 ghost use Rattle.std.specs.Prelude.{◌≤◌, IfOk, length};
 
-use crate::head::{HEADER, Head, LOG_HEADER, LogHead, head_of, is_bare_log, log_of, refusal_of};
+use crate::head::{
+    HEADER, Head, LOG_HEADER, LogHead, head_of, is_bare_log, is_too_long, log_of, refusal_of,
+};
 use job_record::RecordFault;
 use sqlite::{Error, ErrorCode};
 use std::io::Read;
@@ -36,6 +38,7 @@ impl Look {
 /// Looks at a file and at its log, and refuses what no record is.
 pub fn looked<R: AllocGlobal + Files>(rt: &R, file: &str) -> Result<Look, RecordFault> {
     let head = head_at(rt, file)?;
+    refuse_length(rt, file)?;
     let log = log_name(rt, file)?;
     let log_head = log_at(rt, log.as_str())?;
     match refusal_of(head, log_head) {
@@ -45,6 +48,15 @@ pub fn looked<R: AllocGlobal + Files>(rt: &R, file: &str) -> Result<Look, Record
             log,
             log_head,
         }),
+    }
+}
+
+// No record has so many rows: such a file has no bytes in most of its pages, or holds something else.
+fn refuse_length<R: AllocGlobal + Files>(rt: &R, file: &str) -> Result<(), RecordFault> {
+    match fs::metadata(rt, file) {
+        Ok(found) if is_too_long(found.len()) => Err(RecordFault::NotARecord),
+        Ok(_) => Ok(()),
+        Err(error) => Err(of_io(&error)),
     }
 }
 

@@ -9,7 +9,7 @@ pub fn fault_words(alloc: Global, fault: RecordFault) -> Result<String, AllocErr
     match fault {
         RecordFault::NotARecord => String::from_str(
             alloc,
-            "this is no record of jobs, or one of its rows can't be read: a record is a database with the tables meta and job, pages of 4096 bytes, texts in UTF-8 and no auto_vacuum",
+            "this is no record of jobs, or one of its rows can't be read: a record is a database with the tables meta and job, pages of 4096 bytes, texts in UTF-8, no auto_vacuum and 64 GiB at most",
         ),
         RecordFault::WrongVersion => String::from_str(
             alloc,
