@@ -7,7 +7,7 @@ use Rattle.clap.specs.declared.error.ErrorKind.TheVariants.{OutOfMemory}
 use Rattle.job_rows.specs.declared.record.Record.{Ghosts as RowsOf}
 use Rattle.record_program.specs.declared.file.Records.{Ghosts as RecordsOf}
 use Rattle.program_words.specs.CommandLine.{Asks, command_line, wish_of}
-use Rattle.end_words.specs.Told.{AreNotes, Held, IsExplained, IsLeftTold, IsSavingsTold, IsTold, Prints, alone, explained as and_words}
+use Rattle.end_words.specs.Told.{AreNotes, Held, IsExplained, IsLeftTold, IsSavingsTold, IsTold, IsUnkeptTold, Prints, alone, explained as and_words}
 use Rattle.program_words.specs.RunWords.{RunWish}
 use Rattle.program_words.specs.declared.shows.Shows.{Shows}
 use Rattle.program_words.specs.declared.shows.Shows.TheVariants.{Outputs, Lines as Described, Template, Command}
@@ -39,16 +39,16 @@ module _ {R K L : Type 0} (records : RecordsOf R K L) (rows : RowsOf K) (rt : R)
       (subst (λ (l : Option Text). LeadsTo records rows rt words path end.exit l (asks_why choice) (telling_of choice)) (sym bare)
       (subst (λ (e : Exit). LeadsTo records rows rt words path e None (asks_why choice) (telling_of choice)) (sym short) (out_of_memory choice asked))))
 
-pub told_alone : (exit : Exit) (left : Option Text) (savings : Option Savings) (out out_new err err_new : Held) (why : Bool)
-    → why ≡ false → Prints exit out out_new err err_new → IsTold exit left savings out out_new err err_new why
-told_alone exit left savings out out_new err err_new why unasked line =
-    subst (λ (b : Bool). IsTold exit left savings out out_new err err_new b) (sym unasked) (alone line)
+pub told_alone : (exit : Exit) (left : Option Text) (savings : Option Savings) (unkept : Option Text) (out out_new err err_told err_new : Held) (why : Bool)
+    → why ≡ false → Prints exit out out_new err err_told → IsUnkeptTold unkept err_told err_new → IsTold exit left savings unkept out out_new err err_new why
+told_alone exit left savings unkept out out_new err err_told err_new why unasked line lost =
+    subst (λ (b : Bool). IsTold exit left savings unkept out out_new err err_new b) (sym unasked) (alone err_told line lost)
 
-pub told_with_words : (exit : Exit) (left : Option Text) (savings : Option Savings) (out out_new err err_told err_words err_noted err_counted err_new : Held) (why : Bool)
+pub told_with_words : (exit : Exit) (left : Option Text) (savings : Option Savings) (unkept : Option Text) (out out_new err err_told err_words err_noted err_counted err_new : Held) (why : Bool)
     → why ≡ true → Prints exit out out_new err err_told → IsExplained exit err_told err_words → AreNotes exit err_words err_noted
-    → IsSavingsTold exit savings err_noted err_counted → IsLeftTold left err_counted err_new → IsTold exit left savings out out_new err err_new why
-told_with_words exit left savings out out_new err err_told err_words err_noted err_counted err_new why asked line words notes counted stays =
-    subst (λ (b : Bool). IsTold exit left savings out out_new err err_new b) (sym asked)
+    → IsSavingsTold exit savings err_noted err_counted → IsLeftTold left err_counted err_new → IsTold exit left savings unkept out out_new err err_new why
+told_with_words exit left savings unkept out out_new err err_told err_words err_noted err_counted err_new why asked line words notes counted stays =
+    subst (λ (b : Bool). IsTold exit left savings unkept out out_new err err_new b) (sym asked)
     (and_words err_told err_words err_noted err_counted line words notes counted stays)
 
 module _ {R K L : Type 0} (records : RecordsOf R K L) (rows : RowsOf K) (rt : R) where

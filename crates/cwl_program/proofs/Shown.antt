@@ -59,11 +59,10 @@ pub shows_given : (here : Text) (words : RunWish) (path : Text) (given : Given) 
 shows_given here words path given answer ready is = IfOk-weaker answer _ _ (λ end s. shows here given ready s) is
 
 -- each value fits that has to
-pub shown_as : (here : Text) (words : RunWish) (path : Text) (given : Given) (exit told : Exit)
-    → misfit_of words given ≡ None → IsAskedShown words.shows given (first_runtime here words path) exit → told ≡ exit
-    → IsShown here words path given told
-shown_as here words path given exit told fits is same =
-    subst (λ (e : Exit). IsShown here words path given e) (sym same) (shown fits is)
+pub shown_as : (here : Text) (words : RunWish) (path : Text) (given : Given) (answer : Result RunEnd AllocError)
+    → misfit_of words given ≡ None → IfOk answer (λ end. IsAskedShown words.shows given (first_runtime here words path) end.exit)
+    → IfOk answer (λ end. IsShown here words path given end.exit)
+shown_as here words path given answer fits ended = IfOk-weaker answer _ _ (λ end is. shown fits is) ended
 
 -- or one does not
 pub misfits : (here : Text) (words : RunWish) (path : Text) (given : Given) (input : Text) (answer : Result RunEnd AllocError)

@@ -98,9 +98,9 @@ module _ {R K L : Type 0} (records : RecordsOf R K L) (rows : RowsOf K) (rt : R)
   -- what is written and answered for these words and this `PATH`, where the runtime has these records
   pub data Tells (words : List Text) (path : Text) (out out_new err err_new : Held) (status : ℕ) : Type 0 where
     -- the words lead to this end, before which a run may have told of its jobs
-    ends : (exit : Exit) (left : Option Text) (savings : Option Savings) (explains : Bool) (telling : Telling) (err_run : Held) →
+    ends : (exit : Exit) (left : Option Text) (savings : Option Savings) (unkept : Option Text) (explains : Bool) (telling : Telling) (err_run : Held) →
         LeadsTo records rows rt words path exit left explains telling → IsRunTold telling err err_run →
-        Says exit left savings explains out out_new err_run err_new status → Tells words path out out_new err err_new status
+        Says exit left savings unkept explains out out_new err_run err_new status → Tells words path out out_new err err_new status
     -- the words ask for help, or are refused, by a kind that they may be refused by
     explains : (kind : ErrorKind) → IsAmong kind (fault_of command_line words) →
         Explains kind out out_new err err_new status → Tells words path out out_new err err_new status

@@ -13,7 +13,7 @@ use std::fs;
 pub const RECORD: &str = "jobs.db";
 
 /// The archive's folder in a cache.
-const FILES: &str = "files";
+pub const FILES: &str = "files";
 
 /// Whether a cache is named beside a record or an archive.
 pub fn is_twofold(words: &RunWords) -> bool

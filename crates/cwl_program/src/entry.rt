@@ -9,6 +9,7 @@ ghost use Rattle.cwl_program.specs.Tells.{Explains, IsEndOf, IsEndOfWords, IsRec
 use crate::caches::{RECORD, within};
 use crate::certificate::exit_of_check;
 use crate::demo::exit_of_demo;
+use crate::forgetting::remove_forgotten;
 use crate::plan::end_of_plan;
 use crate::run::end_of_process;
 use crate::showing::end_of_showing;
@@ -16,8 +17,8 @@ use crate::standard_output::StandardOutput;
 use crate::usual_words::{answer_words, processors_of};
 use clap::Error;
 use clap::error::ErrorKind;
-use end_words::{Exit, Fault, RunEnd, explain_exit, put_left, put_notes, put_savings};
-use given_words::with_slots;
+use end_words::{Exit, Fault, RunEnd, explain_exit, put_left, put_notes, put_savings, put_unkept};
+use given_words::{with_preference, with_slots};
 use plain_data::Text;
 use process_machine::World;
 use program_words::{
@@ -83,8 +84,10 @@ fn words(rt: &HostRuntime) -> io::Result<Vec<String>> {
     let given: Vec<String> = env::args(rt)?.collect(rt.alloc())?;
     let settled = with_slots(rt.alloc(), given.as_slice(), processors_of(rt))?;
     mem::drop(given);
-    let mut words = name_json_word(rt.alloc(), settled.as_slice())?;
+    let preferred = with_preference(rt.alloc(), settled.as_slice())?;
     mem::drop(settled);
+    let mut words = name_json_word(rt.alloc(), preferred.as_slice())?;
+    mem::drop(preferred);
     let is_terminal = rt.stderr().is_terminal();
     if is_terminal && !is_set(rt, "TERM", "dumb") {
         add_terminal_words(rt.alloc(), &mut words)?;
@@ -141,7 +144,8 @@ struct End {
 
 /// Says how the program ends.
 fn say<O: Write, E: Write>(alloc: Global, end: &End, out: &mut O, err: &mut E) -> u8
-    ensures { Says end.now.run.exit end.now.run.left end.now.run.savings end.now.explains
+    ensures { Says end.now.run.exit end.now.run.left end.now.run.savings end.now.run.unkept
+        end.now.explains
         (O.contents out.old) (O.contents out.new) (E.contents err.old) (E.contents err.new) result }
 {
     match tell(alloc, end, out, err) {
@@ -170,9 +174,10 @@ fn is_for_output(exit: &Exit) -> bool {
 }
 
 // Writes the line of an end, and behind it the words that it is to be explained in, the notes on it, what became of the jobs, and where the
-// work folder is.
+// work folder is. If it is not to be explained, what could not be kept follows alone.
 fn tell<O: Write, E: Write>(alloc: Global, end: &End, out: &mut O, err: &mut E) -> io::Result<()>
     ensures { OnOk result (IsTold end.now.run.exit end.now.run.left end.now.run.savings
+        end.now.run.unkept
         (O.contents out.old) (O.contents out.new) (E.contents err.old) (E.contents err.new)
         end.now.explains) }
 {
@@ -184,7 +189,7 @@ fn tell<O: Write, E: Write>(alloc: Global, end: &End, out: &mut O, err: &mut E) 
         put_savings(alloc, &end.run.exit, &end.run.savings, err)?;
         return put_left(alloc, &end.run.left, err);
     }
-    Ok(())
+    put_unkept(alloc, &end.run.unkept, err)
 }
 
 /// Returns the end that the words lead to, or `clap`'s error. What becomes of the jobs of a run is said on the errors if the words want it.
@@ -278,6 +283,7 @@ fn exit_of_record<R: World + Records>(rt: &R, words: &RecordWords) -> Result<Exi
     let file = record_at(rt, words.file)?;
     let ending = rt.record_ending(file.as_str(), words.forget);
     mem::drop(file);
+    let _removed = remove_forgotten(rt, words, &ending);
     Ok(Exit::Record(ending))
 }
 

@@ -14,6 +14,7 @@ mod demo;
 mod documents;
 mod entry;
 mod folders;
+mod forgetting;
 mod hearing;
 mod held;
 mod inputs;

@@ -6,8 +6,8 @@ use command_line::{BuildFault, Launch};
 use cwl_process::Tool;
 use end_words::{
     Exit, Fault, Given, add_ending, add_listing, add_mismatch, add_obstacle, add_output,
-    add_remarks, add_start, add_tally, add_uncopied, add_unput, add_unstored, misfit_lines,
-    missing_lines, secondary_lines, step_lines, tool_lines, tool_of,
+    add_remarks, add_start, add_tally, add_uncopied, add_unput, add_unstored, full_line,
+    misfit_lines, missing_lines, secondary_lines, step_lines, tool_lines, tool_of,
 };
 use job_graph::Cause as NoValue;
 use plain_data::Text;
@@ -57,6 +57,12 @@ fn all_lines<R: World>(
     Ok(lines)
 }
 
+/// Returns a line on the jobs whose files there was no room for, if that is why they were not kept. If memory runs out there is none.
+pub fn unkept_on<R: World>(alloc: Global, host: &Machine<R>, traces: &Traces<'_>) -> Option<Text> {
+    let archive = archive_of(traces);
+    full_line(alloc, &traces.unstored, archive, host.unstored()).unwrap_or(None)
+}
+
 // Adds which jobs could not be kept for later runs, and why.
 fn add_unkept<R: World>(
     alloc: Global,
@@ -64,12 +70,17 @@ fn add_unkept<R: World>(
     traces: &Traces<'_>,
     lines: &mut Vec<String>,
 ) -> Result<(), AllocError> {
-    let archive = match &traces.memory {
-        Some(memory) => memory.archive,
-        None => None,
-    };
+    let archive = archive_of(traces);
     add_unstored(alloc, &traces.unstored, archive, host.unstored(), lines)?;
     add_unput(alloc, &traces.unput, traces.refusal, lines)
+}
+
+// The name of the archive or of the cache.
+fn archive_of<'a>(traces: &Traces<'a>) -> Option<&'a str> {
+    match &traces.memory {
+        Some(memory) => memory.archive,
+        None => None,
+    }
 }
 
 fn lines_on<R: World>(
@@ -217,11 +228,12 @@ fn mismatch_lines<R: World>(
     let ticket = traces.ticket_at(place);
     let mut lines = job_lines(rt, log, ticket)?;
     if let Some(row) = traces.row_at(place) {
-        let record = match &traces.memory {
-            Some(memory) => memory.record,
-            None => None,
+        let (record, keeps) = match &traces.memory {
+            Some(memory) => (memory.record, memory.keeps),
+            None => (None, false),
         };
-        add_mismatch(rt.alloc(), row, left_by(log, ticket), record, &mut lines)?;
+        let left = left_by(log, ticket);
+        add_mismatch(rt.alloc(), row, left, record, keeps, &mut lines)?;
     }
     Ok(lines)
 }

@@ -12,7 +12,7 @@ use crate::caches::{keeps_archive, remembers};
 use crate::hearing::{Speaker, Voice};
 use crate::held::held_by;
 use crate::jobs::{Jobs, Memory, Traces};
-use crate::notes::notes_on;
+use crate::notes::{notes_on, unkept_on};
 use crate::standard_input::file_of;
 use end_words::{Exit, Given, Places, RunEnd, exit_of_run};
 use job_rows::Record;
@@ -264,10 +264,12 @@ pub fn noted<R: World>(
 {
     let exit = exit?;
     let notes = notes_on(rt, host, given, traces, &exit);
+    let unkept = unkept_on(rt.alloc(), host, traces);
     Ok(RunEnd {
         exit,
         left: None,
         notes,
         savings,
+        unkept,
     })
 }

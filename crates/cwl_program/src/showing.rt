@@ -10,7 +10,10 @@ use crate::run::{here_of, inputs_of, process_of, without_folder};
 use crate::standard_input::file_of;
 use crate::tool_command::exit_of_command;
 use document_links::Process;
-use end_words::{Call, Exit, Given, RunEnd, misfit_lines, of_failure, stopped_call, stopped_run};
+use end_words::{
+    Call, Exit, Given, RunEnd, add_foreseen, add_remarks, misfit_lines, of_failure, stopped_call,
+    stopped_run,
+};
 use job_graph::Cause as NoValue;
 use plain_data::{Items, Text};
 use process_machine::World;
@@ -79,7 +82,7 @@ fn on_process<R: World + Input>(
                 inputs,
                 files,
             };
-            let end = of_given(rt.alloc(), &given, call);
+            let end = of_given(rt, &given, call);
             mem::drop(given);
             end
         }
@@ -91,15 +94,32 @@ fn on_process<R: World + Input>(
     }
 }
 
-fn of_given(alloc: Global, given: &Given, call: &Call<'_>) -> Result<RunEnd, AllocError>
+fn of_given<R: World>(rt: &R, given: &Given, call: &Call<'_>) -> Result<RunEnd, AllocError>
     ensures end { IfOk result (λ end. spec.IsShown call.now.here.now
         (wish_of_run call.now.words.now) call.now.path.now given.now end.exit) }
     ensures left { IfOk result (λ end. end.left ≡ None) }
 {
     match misfit_of(given, call.words) {
-        None => Ok(RunEnd::bare(alloc, exit_of(alloc, given, call)?)),
-        Some(input) => of_misfit(alloc, given, input),
+        None => of_shown(rt, given, call),
+        Some(input) => of_misfit(rt.alloc(), given, input),
     }
+}
+
+// What is shown, and what is known to be wrong with it where that is asked for.
+fn of_shown<R: World>(rt: &R, given: &Given, call: &Call<'_>) -> Result<RunEnd, AllocError>
+    ensures end { IfOk result (λ end. spec.IsAskedShown call.now.words.now.shows given.now
+        (spec.first_runtime call.now.here.now (wish_of_run call.now.words.now) call.now.path.now)
+        end.exit) }
+    ensures left { IfOk result (λ end. end.left ≡ None) }
+{
+    let exit = exit_of(rt.alloc(), given, call)?;
+    let mut end = RunEnd::bare(rt.alloc(), exit);
+    if call.words.shows == Shows::Lines {
+        let file = file_of(call.words.inputs);
+        add_foreseen(rt.alloc(), &given.process, &mut end.notes)?;
+        add_remarks(rt, given, call.words.document, file, &mut end.notes)?;
+    }
+    Ok(end)
 }
 
 // The first input whose value has to fit and does not.
@@ -136,6 +156,7 @@ fn of_misfit(alloc: Global, given: &Given, input: &Text) -> Result<RunEnd, Alloc
         left: None,
         notes,
         savings: None,
+        unkept: None,
     })
 }
 

@@ -82,16 +82,21 @@ abbrev pub IsLeftTold : Option Text → (err err_new : Held) → Type 0
 IsLeftTold None err err_new = err_new ≡ err
 IsLeftTold (Some work) err err_new = IsPut (left_words work) err err_new
 
+-- a line on what could not be kept for later runs since there is no room, where there is such a thing
+abbrev pub IsUnkeptTold : Option Text → (err err_new : Held) → Type 0
+IsUnkeptTold None err err_new = err_new ≡ err
+IsUnkeptTold (Some line) err err_new = IsPut line err err_new
+
 -- an end is said in its line; where it is to be explained, words follow on the errors, lines on what failed, what became of the jobs, and
--- where the work folder is
-pub data IsTold (exit : Exit) (left : Option Text) (savings : Option Savings) (out out_new err err_new : Held) : Bool → Type 0 where
-  alone : Prints exit out out_new err err_new → IsTold exit left savings out out_new err err_new false
+-- where the work folder is; else only what could not be kept
+pub data IsTold (exit : Exit) (left : Option Text) (savings : Option Savings) (unkept : Option Text) (out out_new err err_new : Held) : Bool → Type 0 where
+  alone : (err_told : Held) → Prints exit out out_new err err_told → IsUnkeptTold unkept err_told err_new → IsTold exit left savings unkept out out_new err err_new false
   explained : (err_told err_words err_noted err_counted : Held) → Prints exit out out_new err err_told → IsExplained exit err_told err_words →
       AreNotes exit err_words err_noted → IsSavingsTold exit savings err_noted err_counted → IsLeftTold left err_counted err_new →
-      IsTold exit left savings out out_new err err_new true
+      IsTold exit left savings unkept out out_new err err_new true
 
 -- an end is said, with its status
-pub data Says (exit : Exit) (left : Option Text) (savings : Option Savings) (explains : Bool) (out out_new err err_new : Held) : ℕ → Type 0 where
-  says : IsTold exit left savings out out_new err err_new explains → Says exit left savings explains out out_new err err_new (status_of exit)
+pub data Says (exit : Exit) (left : Option Text) (savings : Option Savings) (unkept : Option Text) (explains : Bool) (out out_new err err_new : Held) : ℕ → Type 0 where
+  says : IsTold exit left savings unkept out out_new err err_new explains → Says exit left savings unkept explains out out_new err err_new (status_of exit)
   -- a write failed
-  fails : Says exit left savings explains out out_new err err_new 3
+  fails : Says exit left savings unkept explains out out_new err err_new 3

@@ -1,7 +1,7 @@
 //! What went wrong, in words (`--explain`).
 ghost use Rattle.std.specs.Prelude.{◌≡◌, IfOk, OnOk, string_bytes};
 ghost use Rattle.std.specs.Io.KnownBytes.{Appends};
-ghost use Rattle.end_words.specs.Told.{AreNotes, HasLine, HasLines, IsEndingExplained, IsExplained, IsLeftTold, IsPut, IsSavingsLine, IsSavingsTold, left_words};
+ghost use Rattle.end_words.specs.Told.{AreNotes, HasLine, HasLines, IsEndingExplained, IsExplained, IsLeftTold, IsPut, IsSavingsLine, IsSavingsTold, IsUnkeptTold, left_words};
 
 use crate::exit::{Exit, Fault, PlanTexts, Refusal, Unreadable};
 use crate::refused_inputs::value_words;
@@ -152,6 +152,16 @@ pub fn put_left<E: Write>(alloc: Global, left: &Option<Text>, err: &mut E) -> io
     match left {
         None => Ok(()),
         Some(work) => put_line(alloc, left_words(alloc, work)?.as_str(), err),
+    }
+}
+
+/// Writes what could not be kept since there is no room, if anything is to be said of that.
+pub fn put_unkept<E: Write>(alloc: Global, unkept: &Option<Text>, err: &mut E) -> io::Result<()>
+    ensures { OnOk result (IsUnkeptTold unkept.now (E.contents err.old) (E.contents err.new)) }
+{
+    match unkept {
+        None => Ok(()),
+        Some(line) => put_line(alloc, line.as_str(), err),
     }
 }
 

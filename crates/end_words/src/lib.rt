@@ -2,8 +2,8 @@
 //!
 //! - `Exit` is an end: its status, and its line on the output or the errors (`specs/Told.antt`).
 //! - `exit_of_run` says how the report of a run ends the program, with what the host's failed call was about.
-//! - `explain_exit`, `put_notes`, `put_savings` and `put_left` write what follows that line if the end is to be explained; each line is shown
-//!   without what a terminal would hide. Which words those are is in no contract.
+//! - `explain_exit`, `put_notes`, `put_savings` and `put_left` write what follows that line if the end is to be explained, and `put_unkept`
+//!   what follows it if not; each line is shown without what a terminal would hide. Which words those are is in no contract.
 //! - `bytes_of_file` reads 64 MiB at most, or says why not; `Stop` is why there is nothing to run.
 //! - `RunEnd::leaving` says whether the work folder stays.
 //! - The rest are lines on what failed: of a text that is no JSON, a field, a reference, an input, an output, a start.
@@ -14,6 +14,7 @@ mod endings;
 mod exit;
 mod explaining;
 mod failed_call;
+mod foreseen;
 mod given;
 mod input_notes;
 mod link_notes;
@@ -40,7 +41,8 @@ mod wrong_form;
 
 pub use endings::add_ending;
 pub use exit::{Exit, Fault, PlanTexts, Refusal, Unreadable};
-pub use explaining::{explain_exit, hindrance_words, put_left, put_notes, put_savings};
+pub use explaining::{explain_exit, hindrance_words, put_left, put_notes, put_savings, put_unkept};
+pub use foreseen::add_foreseen;
 pub use given::{Call, Given, Places};
 pub use input_notes::{misfit_lines, missing_lines, secondary_lines};
 pub use reading::{NoBytes, bytes_of_file, bytes_of_input, sound};
@@ -52,4 +54,4 @@ pub use search::{Reached, reached_from};
 pub use start_notes::{add_listing, add_obstacle, add_start, add_uncopied};
 pub use stop::{Stop, stopped, stopped_call, stopped_run, unread, unread_for};
 pub use tool_texts::{add_output, step_lines, tool_lines, tool_of};
-pub use unkept::{Misses, add_unput, add_unstored};
+pub use unkept::{Misses, add_unput, add_unstored, full_line};

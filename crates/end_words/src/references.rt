@@ -49,7 +49,7 @@ pub fn add_references(
     lines: &mut Vec<String>,
 ) -> Result<(), AllocError> {
     let mut found = Vec::new(alloc);
-    add_reaching(alloc, scope, texts, Reach::Never, &mut found)?;
+    add_valueless(alloc, scope, texts, &mut found)?;
     if found.is_empty() {
         add_reaching(alloc, scope, texts, Reach::Maybe, &mut found)?;
         found.truncate(MOST_DOUBTED);
@@ -60,6 +60,16 @@ pub fn add_references(
         lines.push(line)?;
     }
     Ok(())
+}
+
+/// Adds a line on each reference of these texts that has no value, as far as types show.
+pub(crate) fn add_valueless(
+    alloc: Global,
+    scope: &Scope<'_>,
+    texts: &[Spoken<'_>],
+    lines: &mut Vec<String>,
+) -> Result<(), AllocError> {
+    add_reaching(alloc, scope, texts, Reach::Never, lines)
 }
 
 fn add_reaching(

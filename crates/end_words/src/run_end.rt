@@ -19,6 +19,8 @@ pub struct RunEnd {
     pub notes: Vec<String>,
     /// What became of its jobs, if a run that succeeded says it.
     pub savings: Option<Savings>,
+    /// What could not be kept for later runs since there is no room, in one line that is said though no words are asked for.
+    pub unkept: Option<Text>,
 }
 
 impl RunEnd {
@@ -32,6 +34,7 @@ impl RunEnd {
             left: None,
             notes: Vec::new(alloc),
             savings: None,
+            unkept: None,
         }
     }
 
@@ -46,6 +49,7 @@ impl RunEnd {
             left: _,
             notes,
             savings,
+            unkept,
         } = self;
         let left = left_of(alloc, words, &exit, work)?;
         Ok(RunEnd {
@@ -53,6 +57,7 @@ impl RunEnd {
             left,
             notes,
             savings,
+            unkept,
         })
     }
 }

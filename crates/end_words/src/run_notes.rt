@@ -14,6 +14,9 @@ const FILES_SHOWN: usize = 5;
 const CAUSES: &str =
     "causes are another version of the program, a time, a path, a host name or a random number in a file, and files that are no inputs";
 
+const PREFERRED: &str =
+    "`--prefer-kept` loads the files that are kept of such a job, if they are there and right, and doesn't compute it again";
+
 /// What the record has of a job.
 #[derive(Drop)]
 pub struct Remembered {
@@ -35,23 +38,27 @@ impl Remembered {
     }
 }
 
-/// Adds lines on a job that did not give what the record has: which files differ, if what it left was listed, what may be the cause, and
-/// how the record forgets it, if that is of this file or folder.
+/// Adds lines on a job that did not give what the record has: which files differ, if what it left was listed, what may be the cause,
+/// how the record forgets it, if that is of this file or folder, and how the files that are kept are loaded, if any are.
 pub fn add_mismatch(
     alloc: Global,
     was: &Remembered,
     now: Option<&[Found]>,
     record: Option<&str>,
+    keeps: bool,
     lines: &mut Vec<String>,
 ) -> Result<(), AllocError> {
     if let Some(now) = now {
         add_differences(alloc, was.files.as_slice(), now, lines)?;
     }
     lines.push(String::from_str(alloc, CAUSES)?)?;
-    match record {
-        Some(record) => add_remedy(alloc, was.key.as_str(), record, lines),
-        None => Ok(()),
+    if let Some(record) = record {
+        add_remedy(alloc, was.key.as_str(), record, lines)?;
     }
+    if keeps {
+        lines.push(String::from_str(alloc, PREFERRED)?)?;
+    }
+    Ok(())
 }
 
 fn add_differences(

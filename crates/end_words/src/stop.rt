@@ -68,6 +68,7 @@ fn advised(exit: Exit, notes: Vec<String>) -> RunEnd
         left: None,
         notes,
         savings: None,
+        unkept: None,
     }
 }
 

@@ -64,12 +64,8 @@ pub fn tool_lines(
     let Some(tool) = tool_of(process, place) else {
         return Ok(lines);
     };
-    let scope = scope_of_tool(alloc, tool, Runtime::CoresAndFolders)?;
-    let mut texts = Vec::new(alloc);
-    add_arguments(tool, &mut texts)?;
-    add_bindings(tool, &mut texts)?;
-    add_variables(tool, &mut texts)?;
-    add_streams(tool, &mut texts)?;
+    let scope = scope_of_command(alloc, tool)?;
+    let texts = command_texts(alloc, tool)?;
     add_references(alloc, &scope, texts.as_slice(), &mut lines)?;
     Ok(lines)
 }
@@ -85,10 +81,19 @@ pub fn step_lines(
         return Ok(lines);
     };
     let scope = scope_of_step(alloc, step)?;
-    let mut texts = Vec::new(alloc);
-    add_step_texts(step, &mut texts)?;
+    let texts = step_texts(alloc, step)?;
     add_references(alloc, &scope, texts.as_slice(), &mut lines)?;
     Ok(lines)
+}
+
+/// What the texts speak of that make the command of a tool.
+pub(crate) fn scope_of_command(alloc: Global, tool: &Tool) -> Result<Scope<'_>, AllocError> {
+    scope_of_tool(alloc, tool, Runtime::CoresAndFolders)
+}
+
+/// What the texts of a tool's outputs speak of.
+pub(crate) fn scope_of_outputs(alloc: Global, tool: &Tool) -> Result<Scope<'_>, AllocError> {
+    scope_of_tool(alloc, tool, Runtime::Cores)
 }
 
 fn scope_of_tool(alloc: Global, tool: &Tool, runtime: Runtime) -> Result<Scope<'_>, AllocError> {
@@ -99,8 +104,8 @@ fn scope_of_tool(alloc: Global, tool: &Tool, runtime: Runtime) -> Result<Scope<'
     Ok(Scope { inputs, runtime })
 }
 
-// Of a step's inputs nothing is known.
-fn scope_of_step(alloc: Global, step: &Step) -> Result<Scope<'_>, AllocError> {
+/// What the texts of a step speak of: its inputs, of which nothing is known.
+pub(crate) fn scope_of_step(alloc: Global, step: &Step) -> Result<Scope<'_>, AllocError> {
     let mut inputs = Vec::new(alloc);
     for (name, _) in step.inputs.as_slice() {
         inputs.push((name, Known::Nothing))?;
@@ -116,6 +121,16 @@ fn known_of(input: &ToolInput) -> Known<'_> {
         InputType::Stdin => Known::File,
         InputType::Members(types) => Known::Types(types),
     }
+}
+
+/// The texts that make the command of a tool.
+pub(crate) fn command_texts(alloc: Global, tool: &Tool) -> Result<Vec<Spoken<'_>>, AllocError> {
+    let mut texts = Vec::new(alloc);
+    add_arguments(tool, &mut texts)?;
+    add_bindings(tool, &mut texts)?;
+    add_variables(tool, &mut texts)?;
+    add_streams(tool, &mut texts)?;
+    Ok(texts)
 }
 
 fn add_arguments<'a>(tool: &'a Tool, texts: &mut Vec<Spoken<'a>>) -> Result<(), AllocError> {
@@ -150,11 +165,14 @@ fn add_streams<'a>(tool: &'a Tool, texts: &mut Vec<Spoken<'a>>) -> Result<(), Al
     add_text(tool.streams.stderr.as_ref(), Known::Null, texts)
 }
 
-fn add_step_texts<'a>(step: &'a Step, texts: &mut Vec<Spoken<'a>>) -> Result<(), AllocError> {
+/// The texts `valueFrom` and `when` of a step.
+pub(crate) fn step_texts(alloc: Global, step: &Step) -> Result<Vec<Spoken<'_>>, AllocError> {
+    let mut texts = Vec::new(alloc);
     for (_, input) in step.inputs.as_slice() {
-        add_text(input.value_from.as_ref(), Known::Nothing, texts)?;
+        add_text(input.value_from.as_ref(), Known::Nothing, &mut texts)?;
     }
-    add_text(step.when.as_ref(), Known::Nothing, texts)
+    add_text(step.when.as_ref(), Known::Nothing, &mut texts)?;
+    Ok(texts)
 }
 
 fn add_text<'a>(
@@ -250,7 +268,16 @@ fn add_output_references(
     output: &ToolOutput,
     lines: &mut Vec<String>,
 ) -> Result<(), AllocError> {
-    let scope = scope_of_tool(alloc, tool, Runtime::Cores)?;
+    let scope = scope_of_outputs(alloc, tool)?;
+    let texts = output_texts(alloc, output)?;
+    add_references(alloc, &scope, texts.as_slice(), lines)
+}
+
+/// The patterns and `outputEval` of an output.
+pub(crate) fn output_texts(
+    alloc: Global,
+    output: &ToolOutput,
+) -> Result<Vec<Spoken<'_>>, AllocError> {
     let mut texts = Vec::new(alloc);
     for template in patterns_of(output) {
         add_text(Some(template), Known::Null, &mut texts)?;
@@ -258,5 +285,5 @@ fn add_output_references(
     if let Some(binding) = &output.binding {
         add_text(binding.output_eval.as_ref(), Known::Nothing, &mut texts)?;
     }
-    add_references(alloc, &scope, texts.as_slice(), lines)
+    Ok(texts)
 }

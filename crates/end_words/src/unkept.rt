@@ -44,8 +44,36 @@ pub fn add_unstored(
     why: Option<Hindrance>,
     lines: &mut Vec<String>,
 ) -> Result<(), AllocError> {
+    if let Some(line) = unstored_line(alloc, missed, archive, why)? {
+        lines.push(line)?;
+    }
+    Ok(())
+}
+
+/// Returns that line if there is no room for files: it is said though no words are asked for.
+pub fn full_line(
+    alloc: Global,
+    missed: &Misses,
+    archive: Option<&str>,
+    why: Option<Hindrance>,
+) -> Result<Option<Text>, AllocError> {
+    match why {
+        Some(Hindrance::Full) => {
+            let line = unstored_line(alloc, missed, archive, why)?;
+            Ok(line.map(Text::from_string))
+        }
+        _ => Ok(None),
+    }
+}
+
+fn unstored_line(
+    alloc: Global,
+    missed: &Misses,
+    archive: Option<&str>,
+    why: Option<Hindrance>,
+) -> Result<Option<String>, AllocError> {
     let Some(jobs) = jobs_in(alloc, missed)? else {
-        return Ok(());
+        return Ok(None);
     };
     let place = archive.unwrap_or("the archive");
     let mut line = format!(in alloc;
@@ -55,8 +83,7 @@ pub fn add_unstored(
         line.push_str(": ")?;
         line.push_str(hindrance_words(why))?;
     }
-    lines.push(line)?;
-    Ok(())
+    Ok(Some(line))
 }
 
 /// Adds a line on the jobs whose rows the record refused, by a refusal of this code.

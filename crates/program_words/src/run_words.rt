@@ -44,7 +44,8 @@ const ARCHIVE_HELP: &str =
 const CACHE_HELP: &str =
     "The folder of a record and an archive, made if it is absent: `--record DIR/jobs.db --archive DIR/files`";
 
-const BASE_HELP: &str = "What it costs to load the files of any job, from 0 to 10^12 [1]";
+const BASE_HELP: &str =
+    "What it costs to load the files of any job, from 0 to 10^12 [1]; by `--prefer-kept` this is 0 and the rate 10^12, so that what is kept is loaded";
 
 const RATE_HELP: &str = "How many bytes are loaded for a cost of 1, from 1 to 10^12 [100000]";
 
