@@ -21,7 +21,7 @@ from .plans import Evaluator, too_long
 from .places import SCHEME, NotAFile, path_of, split_fragment
 from .process import Rewriter, Scope, named_types
 from .requirements import Requirements
-from .secondary import all_static, with_companions
+from .secondary import all_static, fields_ask, with_companions
 from .values import Values
 from .versions import UnknownVersion, current
 
@@ -97,8 +97,9 @@ class Import:
         scope = scope._replace(version=str(self.upgraded[path]["cwlVersion"]))
         if not self.written:
             names = {**scope.names, **named_types(raw)}
-            self.discovering = {short(key) for key, it in parameters(raw.get("inputs")) if isinstance(it, Fields) and not all_static(it.get("secondaryFiles"))}
             self.types, self.root = kinds_of_process(raw, names, self.peek), (raw, names)
+            asking = {short(key) for key, it in parameters(raw.get("inputs")) if isinstance(it, Fields) and not all_static(it.get("secondaryFiles"))}
+            self.discovering = asking | {key for key, kind in self.types[0].items() if fields_ask(kind)}
         stem = os.path.splitext(os.path.basename(path))[0]
         name = self.folder.name(f"{stem}-{short(fragment)}" if fragment and self.written else stem)
         self.written[asked] = name
@@ -176,7 +177,7 @@ class Import:
         # Only a job of node tells numbers in Any from others.
         is_open = kind is not None and mentions(kind, ("Any",)) and not self.is_in_job
         made = self.values.rewritten(raw, key, it, None if is_open else kind)
-        if self.is_in_job and short(key) in self.discovering:
+        if short(key) in self.discovering:
             made = with_companions(made)
         if kind is None or it is None:
             return made

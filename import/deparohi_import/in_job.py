@@ -17,7 +17,7 @@ from .pattern import Pattern
 from .plans import tool_of
 from .references import has_expression
 from .requirements import NO_CONTAINERS, Asked, entries, variables_of
-from .secondary import all_static, static_patterns
+from .secondary import all_static, fields_ask, static_patterns, with_companions
 
 if TYPE_CHECKING:
     from .process import Rewriter, Scope
@@ -27,6 +27,8 @@ DOCUMENTING = ("doc", "label", "intent", "format", "streamable", "$namespaces", 
 WHOLE_INPUTS = Pattern(r"(?<![\w$.'\"])inputs(?!\w|\s*[.\[:])")
 # What sees the order of an object's names, and what is no code.
 ENUMERATES = Pattern(r"\bin\b|\bObject\b|\bJSON\b|\.\.\.|\bReflect\b|\bforEach\b")
+# Inputs as a whole that a function is called with.
+GIVEN_ON = Pattern(r"(?<![\w$.])(?!(?:for|if|in|of|return|switch|typeof|while)\b)[A-Za-z_$][\w$]*\s*\((?:[^()]*,)?\s*inputs\s*(?=[,)])")
 # A name of an input in JavaScript, and what is asked of its value.
 CHAIN = Pattern(r"\binputs\s*\.\s*(\w+)((?:\s*\.\s*\w+|\s*\[\s*\w*\s*\])*)")
 REFERRED = Pattern(r"\$\((?:inputs(?:\.(\w+)|\[['\"](\w+)['\"]\])|self)[^()\s]*\.format\)")
@@ -62,6 +64,7 @@ class InJob:
         """Returns the tool, or None where something is refused."""
         plan, inputs = self.plan(), self.inputs()
         self.check_texts()
+        plan.update(guarded_in([code for *_, text in texts_below(self.raw) for code in parts_of_any(text)], plan["library"]))
         if self.refusals:
             return None
         made = tool_of(self.raw, plan, inputs, self.rewriter.values.folder)
@@ -83,7 +86,7 @@ class InJob:
             "javascript": library is not None,
             "library": list(library.texts) if library else [],
             "isExpression": self.is_expression,
-            "inputs": [self.parameter("inputs", name, it) for name, it in parameters(raw.get("inputs"))],
+            "inputs": [self.discovering(self.parameter("inputs", name, it)) for name, it in parameters(raw.get("inputs"))],
             "outputs": [self.parameter("outputs", name, it) for name, it in parameters(raw.get("outputs"))],
             "baseCommand": list(base) if isinstance(base, Items) else [] if base is None else [base],
             "arguments": items_of(raw.get("arguments")),
@@ -115,10 +118,12 @@ class InJob:
         if not isinstance(it, Fields) or isinstance(self.raw.get(section), Fields) and "type" not in it:
             return {"name": short(name), "type": types.kind(self.raw[section], name, it)}
         made = {key: value for key, value in it.items() if key not in ("id", "default", *DOCUMENTING) and value is not None}
-        if self.is_root and section == "inputs" and not all_static(it.get("secondaryFiles")):
-            # What stands beside the file is told with it, and the job keeps those that are asked for.
-            made["discovers"] = True
         return {**made, "name": short(name), "type": types.kind(it, "type", it.get("type"))}
+
+    def discovering(self, made: Dict[str, Any]) -> Dict[str, Any]:
+        """Marks an input of the root of which all is told that stands beside its files: the job keeps what is asked for."""
+        asks = not all_static(made.get("secondaryFiles")) or fields_ask(made["type"])
+        return {**made, "discovers": True} if self.is_root and asks else made
 
     def environment(self) -> List[Tuple[str, str]]:
         """Returns the variables in force, those of the user's choice behind the document's."""
@@ -200,6 +205,7 @@ class InJob:
             one.line = getattr(it, "line", one.line)
             if isinstance(it, Fields) and it.get("default") is not None:
                 default = values.rewritten(it, "default", it["default"], told["type"])
+                default = with_companions(default) if "discovers" in self.discovering(told) else default
                 one.put("default", encoded(default, told["type"]), it.line_of("default"))
             if told.get("secondaryFiles") is not None:
                 self.secondary(one, it)
@@ -248,13 +254,19 @@ def without_files(kinds: Dict[str, Any]) -> FrozenSet[str]:
 def why_other(code: str, library: str, plain: FrozenSet[str]) -> Optional[str]:
     """Returns why JavaScript may give another value than in cwltool, or None. The plain inputs have no files."""
     bare = APART.sub(" ", code)
-    if WHOLE_INPUTS.search(bare) and bare.strip("() ") != "inputs" and ENUMERATES.search(bare + APART.sub(" ", library)):
+    if WHOLE_INPUTS.search(GIVEN_ON.sub(" ", bare)) and bare.strip("() ") != "inputs" and ENUMERATES.search(bare + APART.sub(" ", library)):
         return "inputs are named as a whole: their order is another one"
     if re.search(r"\.\s*format\b(?!\s*\()", CHAIN.sub(lambda it: " " if it[1] in plain else f" {it[2]}", bare)):
         return "the format of a file is not kept"
     if re.search(r"\binputs\b[^;]*\.\s*checksum\b", bare):
         return "the checksum of an input is not known to cwltool"
     return None
+
+
+def guarded_in(codes: List[str], library: List[str]) -> Dict[str, bool]:
+    """Returns what a plan says of JavaScript that may look at the order of inputs where nothing but a run tells: the job fails if it does."""
+    bare = [APART.sub(" ", it) for it in [*codes, *library]]
+    return {"guarded": True} if any(map(WHOLE_INPUTS.search, bare)) and any(map(ENUMERATES.search, bare)) else {}
 
 
 def image_of(fields: Fields) -> Optional[str]:

@@ -7,6 +7,7 @@ from .expressions import is_javascript, parameters
 from .findings import LEFT
 from .flow import Flow, with_null
 from .forms import entry_of, step
+from .in_job import guarded_in, why_other, without_files
 from .javascript_parts import parts_of_any
 from .kinds import FLOATS, are_alike, encoded, item_of, items_of, lowered, may_be_text, mentions
 from .marked import Fields, Items, copied, list_of, marked_of, object_of
@@ -33,9 +34,15 @@ class Step:
         self.condition = raw.get("when")
         # Entries that bring numbers in another form than the process reads them in.
         self.converted = [key for key in self.entries if key not in self.valued and self.is_unlike(key)]
-        is_open = any(mentions(self.kind(key), ("Any",)) for key in self.entries)
-        self.reread = [key for key in self.valued if is_open and mentions(self.flow.target(name, key), FLOATS) or self.asks_length(key)]
+        brought = [self.kind(key) for key in self.entries]
+        self.is_open, self.is_fractional = mentions(brought, ("Any",)), mentions(brought, FLOATS)
+        self.reread = [key for key in self.valued if self.may_be_unlike(key) or self.asks_length(key)]
         self.valued.update({key: "$(self)" for key in self.converted})
+
+    def may_be_unlike(self, name: str) -> bool:
+        """Says whether what a text makes of the entries may be a number in another form than the process reads it in."""
+        target = self.flow.process(self.name)[0].get(name)
+        return self.is_open and mentions(target, FLOATS) or self.is_fractional and mentions(target, ("Any",))
 
     def is_unlike(self, name: str) -> bool:
         """Says whether an entry brings numbers in another form than the process reads them in. Into Any, which tools may bind as it is, none is led."""
@@ -74,8 +81,6 @@ class Step:
 
     def is_left(self) -> bool:
         """Says whether some JavaScript stays, with the reason of each text."""
-        from .in_job import why_other, without_files
-
         left, plain = False, without_files({name: self.kind(name) for name in self.entries})
         for text in [*self.valued.values(), self.condition]:
             for code in parts_of_any(text) if isinstance(text, str) else []:
@@ -120,6 +125,7 @@ class Step:
             "outputs": outputs,
             "values": [{"name": name, "text": text, "of": name} for name, text in self.valued.items()],
             **{key: [] for key in ("successCodes", "temporaryFailCodes", "permanentFailCodes")},
+            **guarded_in([code for it in [*self.valued.values(), self.condition] if isinstance(it, str) for code in parts_of_any(it)], list(self.library)),
         }
         if self.has_condition():
             plan["when"] = {"name": self.when(), "text": self.condition}

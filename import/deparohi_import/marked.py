@@ -10,6 +10,8 @@ class Fields(dict):
         super().__init__()
         self.file, self.line = file, line
         self.lines: Dict[str, Optional[int]] = {}
+        # Of an input of the root: whether its files are told with all that stands beside them.
+        self.discovers = False
         # Of a process: the types of its inputs and outputs, expanded, once they are known.
         self.kinds: Any = None
 

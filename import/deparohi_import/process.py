@@ -5,13 +5,14 @@ from typing import Any, Callable, Dict, NamedTuple, Optional, Set, Tuple
 
 from .checking import Checker
 from .choices import Choices
+from .chosen import Chosen
 from .contents import is_read_there, lengths_of_texts, pushed_down
 from .expressions import parameters
 from .findings import IGNORED, LEFT, REWRITTEN, WRONG, Findings
 from .flow import kinds_of, list_type
 from .in_job import InJob
 from .javascript import JavaScript, Library
-from .kinds import encoded, mentions
+from .kinds import encoded, kind_of_value, mentions
 from .links import lone_picks
 from .marked import Fields, Items, copied, object_of
 from .names import class_name, short, source_name
@@ -19,7 +20,7 @@ from .plans import Evaluator
 from .references import JAVASCRIPT, faults, has_expression
 from .requirements import Asked, Requirements, ToolTexts, entries
 from .shell import command_of
-from .secondary import patterns_in_place
+from .secondary import patterns_in_place, with_companions
 from .types import OF_INPUT, OF_LINK, OF_OUTPUT, Types
 from .values import Values
 
@@ -94,11 +95,12 @@ class Rewriter:
 
     def plainly(self, raw: Fields, scope: Scope) -> Fields:
         """Returns the process in the forms of v1.2, without its version, with what the runner refuses found."""
-        if kind_of(raw) == "Workflow":
-            self.is_root = False
         library = self.javascript.library(raw, scope.library)
         names = {**scope.names, **named_types(raw)}
-        raw = pushed_down(raw) if kind_of(raw) == "Workflow" else raw
+        if kind_of(raw) == "Workflow":
+            raw = pushed_down(raw)
+            raw = Chosen(raw, self.is_root, library, names, scope.version, self.javascript).made() if self.javascript.is_on else raw
+            self.is_root = False
         raw = self.javascript.without(raw, kind_of(raw), library, "LoadListingRequirement" not in scope.carried, names, scope.version)
         kind = kind_of(raw)
         outer, self.types = self.types, Types(self.findings, names)
@@ -204,7 +206,8 @@ class Rewriter:
                 it = self.types.rewritten(raw, key, it, place(section, kind))
             elif key == "default":
                 whole = self.types.kind(raw, "type", raw.get("type"))
-                it = encoded(self.values.rewritten(raw, key, it, whole), whole)
+                it = self.values.rewritten(raw, key, it, whole)
+                it = encoded(with_companions(it) if raw.discovers else it, whole)
             elif key == "secondaryFiles":
                 it = self.secondary(raw, key, it)
             elif key == "loadListing":
@@ -378,11 +381,15 @@ class Rewriter:
         return listed
 
     def targets(self, raw: Fields, names: Dict[str, Any]) -> Dict[str, Any]:
-        """Returns the types of what entries with a default lead to: of the process's inputs, in lists where they are scattered."""
+        """Returns the types of what entries with a default lead to: of the process's inputs, in lists where they are scattered, or their own."""
         if not any(isinstance(it, Fields) and "default" in it for _, it in parameters(raw.get("in"))):
             return {}
         found = self.javascript.peek(raw, names)
         kinds = kinds_of(found[0].get("inputs"), found[1]) if found else {}
+        for key, it in parameters(raw.get("in")):
+            if found and isinstance(it, Fields) and it.get("default") is not None:
+                # What the process doesn't take, texts of the step may name.
+                kinds.setdefault(short(key), kind_of_value(it["default"]))
         scatter = raw.get("scatter")
         for it in scatter if isinstance(scatter, Items) else [scatter]:
             if isinstance(it, str) and short(it) in kinds:

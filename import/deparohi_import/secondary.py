@@ -5,6 +5,7 @@ import re
 from typing import Any, Dict, List, Optional
 
 from .fault import ImportFault
+from .kinds import fields_of
 from .marked import Fields, Items, copied, list_of, object_of
 from .pattern import Pattern
 from .places import NotAFile, path_of, url_of
@@ -52,11 +53,20 @@ def all_static(section: Any) -> bool:
     return True
 
 
+def fields_ask(kind: Any) -> bool:
+    """Says whether a field of a record in an expanded type asks for secondary files."""
+    for it in kind if isinstance(kind, list) else [kind]:
+        if isinstance(it, dict) and it.get("type") == "array" and fields_ask(it.get("items")):
+            return True
+        if isinstance(it, dict) and it.get("type") == "record" and any(one.get("secondaryFiles") is not None or fields_ask(one["type"]) for one in fields_of(it)):
+            return True
+    return False
+
+
 def with_companions(value: Any) -> Any:
     """Returns a value with each File that says no secondary files of its own having those that stand beside it and begin like its name."""
-    if isinstance(value, Items):
-        for at, it in enumerate(value):
-            value[at] = with_companions(it)
+    for at, it in enumerate(value) if isinstance(value, Items) else list(value.items()) if isinstance(value, Fields) and "class" not in value else []:
+        value[at] = with_companions(it)
     if not isinstance(value, Fields) or value.get("class") != "File" or "secondaryFiles" in value or not isinstance(value.get("location"), str):
         return value
     try:

@@ -5,6 +5,16 @@ from typing import Any, List
 from urllib.parse import unquote
 
 LABORATORY = os.path.join(os.path.dirname(os.path.realpath(__file__)), "laboratory")
+# What the stand-in of laboratories' tools is called.
+TOOLS = ("samtools", "bwa", "STAR", "gatk", "salmon", "multiqc", "fastp")
+
+
+def tools(folder: str) -> str:
+    """Makes a folder of laboratories' tools, which are all the one that stands for them. Returns it."""
+    os.makedirs(folder)
+    for name in TOOLS:
+        os.symlink(os.path.join(LABORATORY, "fake"), os.path.join(folder, name))
+    return folder
 
 
 def cases() -> List[str]:

@@ -11,7 +11,7 @@ import unittest
 from typing import Any, Dict, List
 
 from .helping import HERE, TOOL, TOP, InFolder, program
-from .plain_values import cases, files_of, plain_texts
+from .plain_values import cases, files_of, plain_texts, tools
 
 from deparohi_import import node
 
@@ -50,9 +50,10 @@ class Laboratory(InFolder):
         with open(os.path.join(DOCUMENTS, "expected.json"), encoding="utf-8") as it:
             expected = json.load(it)
         self.assertEqual(cases(), sorted(expected))
+        found = f"{tools(os.path.join(self.path, 'bin'))}:{os.environ['PATH']}"
         for name, outputs in expected.items():
             with self.subTest(name):
-                ended = self.run_front("run", "--explain", "--work", f"work-{name}", "--outdir", name, *files_of(name))
+                ended = self.run_front("run", "--explain", "--work", f"work-{name}", "--outdir", name, *files_of(name), PATH=found)
                 self.assertEqual(0, ended.returncode, ended.stderr)
                 made = plain_texts(json.loads(ended.stdout))
                 # Text shows that 1 isn't 1.0.
@@ -69,6 +70,18 @@ class Laboratory(InFolder):
         text = TOOL + ASKED + "inputs: {constructor: string, __proto__: int, toString: 'int?'}\noutputs: {o: stdout}\n"
         text += "arguments: ['$(inputs.constructor + 1)', '$(inputs[\"__proto__\"] + 1)', '$(String(inputs.toString === null))']\n"
         self.assertEqual("a1 3 true\n", self.given(text, "constructor: a\n__proto__: 2\n")["o"]["text"])
+
+    def test_the_order_of_inputs(self) -> None:
+        library = "expressionLib: ['function keys(all) { return Object.keys(all); }', 'function own() { return Object.keys(inputs); }', 'function one(all) { return \"b\" in all ? all.b : 0; }']"
+        text = TOOL + f"requirements: {{InlineJavascriptRequirement: {{{library}}}}}\ninputs: {{a: int, b: int}}\noutputs: {{o: stdout}}\n"
+        self.assertEqual("2\n", self.given(text + "arguments: [$(one(inputs))]\n", "a: 1\nb: 2\n")["o"]["text"])
+        for code in ("keys(inputs)", "own()"):
+            self.write("main.cwl", text + f"arguments: [$({code})]\n")
+            ended = self.run_front("run", "--explain", "main.cwl", "job.yml")
+            self.assertEqual(1, ended.returncode, ended.stderr)
+            self.assertIn("it goes through the names of all inputs", ended.stderr)
+        for code in ("Object.keys(inputs)", "keys(JSON.stringify(inputs))"):
+            self.refused(text + f"arguments: [$({code})]\n", "JavaScript")
 
     def test_fractions_in_words(self) -> None:
         text = TOOL + ASKED + "inputs: []\noutputs: {o: stdout}\narguments: [$(1/3), 'x$(1e-7)', $(1e21), $(2.5e3)]\n"

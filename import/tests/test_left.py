@@ -70,6 +70,8 @@ class Left(InFolder):
     def test_expressions_where_the_runner_takes_none(self) -> None:
         self.leaves(TOOL + "outputs: []\ninputs:\n  a:\n    type: int\n    inputBinding:\n      position: $(self)\n", "expression in position 9")
         self.leaves(TOOL + "outputs: []\ninputs:\n  a:\n    type: File\n    secondaryFiles: $(self.basename + inputs.x).idx\n", "expression in secondaryFiles 8")
+        workflow = "cwlVersion: v1.2\nclass: Workflow\noutputs: []\nsteps: []\ninputs:\n  a:\n    type: File\n    secondaryFiles: ${return self.basename + 1;}\n"
+        self.leaves(workflow, "expression in secondaryFiles 8")
 
     def test_fields_that_are_missing_unknown_or_twice_are_wrong(self) -> None:
         self.leaves(TOOL + "inputs: []\n", "outputs missing 1")

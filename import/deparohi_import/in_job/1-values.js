@@ -105,10 +105,8 @@ function placed(it, at) {
   it.path = at;
   it.location = urlOf(at);
   it.basename = path.basename(at);
-  if (it.class === "File") {
-    it.dirname = path.dirname(at);
-    [it.nameroot, it.nameext] = splitName(it.basename);
-  }
+  it.dirname = path.dirname(at);
+  if (it.class === "File") [it.nameroot, it.nameext] = splitName(it.basename);
   return it;
 }
 

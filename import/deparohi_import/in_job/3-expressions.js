@@ -5,6 +5,13 @@ const SEGMENTS = /\.(\w+)|\['((?:[^']|\\')+)'\]|\["((?:[^"]|\\")+)"\]|\[([0-9]+)
 const hasExpression = (it) => typeof it === "string" && (it.includes("$(") || it.includes("${"));
 // An expression that never ends is ended, as cwltool's are after a minute.
 const LONGEST = 300000;
+// Keeps an expression from going through the names of all inputs, which have another order here than in cwltool.
+const GUARD = `var deparohi_open = false;
+inputs = new Proxy(inputs, { ownKeys: function (all) {
+  if (deparohi_open) return Reflect.ownKeys(all);
+  throw new Error("it goes through the names of all inputs, whose order is another one than in cwltool");
+} });
+`;
 
 // Returns where the next expression, or backslash with what follows it, begins and ends.
 function nextPart(text) {
@@ -108,7 +115,8 @@ class Expressions {
   ran(code, self) {
     const inner = code.length > 1 && code[0] === "{" ? code : `{return (${code});}`;
     const known = `${this.head()}var self = ${javascriptText(self)};\nvar runtime = ${javascriptText(this.runtime)};\n`;
-    const text = `"use strict";\n${this.plan.library.join("\n")}\n${known}JSON.stringify((function()${inner})())`;
+    const [guard, open] = this.plan.guarded ? [GUARD, "deparohi_open = true; "] : ["", ""];
+    const text = `"use strict";\n${this.plan.library.join("\n")}\n${known}${guard}(function (value) { ${open}return JSON.stringify(value); })((function()${inner})())`;
     const context = require("vm").createContext(Object.create(null), { codeGeneration: { strings: false, wasm: false } });
     let said;
     try {

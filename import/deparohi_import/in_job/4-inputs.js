@@ -125,13 +125,14 @@ function inputsOf(plan, words, folder) {
   if (plan.lists.length) companions(plan, made, folder);
   for (const { name, type, loadContents, loadListing, inputBinding } of plan.inputs) {
     if (!plan.isStep && !fits(made[name], type)) fail(`the input ${name} isn't of its type: ${pythonJson(made[name]).slice(0, 200)}`);
-    const loads = loadContents || (inputBinding && inputBinding.loadContents), listing = loadListing || plan.listing;
-    const folders = [];
+    const listing = loadListing || plan.listing, folders = [];
     visit(made[name], (it) => {
       if (it.class === "Directory" && it.listing === undefined) folders.push(it);
     });
     if (listing !== "no_listing") folders.forEach((it) => listed(it, listing === "deep_listing"));
-    if (loads) for (const it of Array.isArray(made[name]) ? ((plan.hidden || []).includes(name) ? made[name] : []) : [made[name]]) if (isFile(it) && it.class === "File") it.contents = contentsOf(it.path);
+    eachFile({ type, loadContents, inputBinding }, made[name], (it, schema, isListed) => {
+      if (asksContents(schema) && (!isListed || (plan.hidden || []).includes(name))) it.contents = contentsOf(it.path);
+    });
   }
   return made;
 }
@@ -154,12 +155,12 @@ function patternsOf(section) {
   });
 }
 
-// Checks secondary files that expressions ask for: each is among those that the File has, or the job fails.
+// Checks secondary files that are asked for: each is among those that the File has, or the job fails.
 function checkSecondary(plan, inputs, expressions) {
   for (const input of plan.inputs) {
-    visitFiles(inputs[input.name], (it) => {
+    eachFile(input, inputs[input.name], (it, schema) => {
       const asked = new Set();
-      for (const one of patternsOf(input.secondaryFiles)) {
+      for (const one of patternsOf(schema.secondaryFiles)) {
         const required = hasExpression(one.required) ? expressions.value(one.required, it) : one.required === undefined || one.required === null ? true : one.required;
         const names = hasExpression(one.pattern) ? expressions.value(one.pattern, it) : secondaryName(it.basename, one.pattern);
         for (const name of Array.isArray(names) ? names : [names]) {
@@ -170,13 +171,22 @@ function checkSecondary(plan, inputs, expressions) {
           if (!has && required) fail(`the secondary file ${wanted} of ${it.basename} is missing`);
         }
       }
-      if (input.discovers) it.secondaryFiles = [...asked].map((name) => (it.secondaryFiles || []).find((other) => other.basename === name)).filter((other) => other !== undefined);
+      if (input.discovers && schema.secondaryFiles) it.secondaryFiles = [...asked].map((name) => (it.secondaryFiles || []).find((other) => other.basename === name)).filter((other) => other !== undefined);
+      else if (input.discovers) delete it.secondaryFiles;
     });
   }
   expressions.changed();
 }
 
-function visitFiles(value, act) {
-  if (Array.isArray(value)) value.forEach((it) => visitFiles(it, act));
-  else if (isFile(value) && value.class === "File") act(value);
+const asksContents = (schema) => schema.loadContents || (schema.inputBinding && schema.inputBinding.loadContents);
+
+// Visits each File of a value with what asks for more of it, the input or a field of a record in it, and whether it stands in a list, of
+// which cwltool reads no contents.
+function eachFile(schema, value, act, isListed = false) {
+  if (Array.isArray(value)) value.forEach((it) => eachFile({ ...schema, type: (memberOf(schema.type, "array") || {}).items }, it, act, true));
+  else if (isFile(value)) value.class === "File" && act(value, schema, isListed);
+  else if (isObject(value)) {
+    const record = membersOf(schema.type).find((it) => isObject(it) && it.type === "record" && fits(value, it));
+    for (const it of record ? fieldsOf(record) : []) eachFile(it, value[it.name], act);
+  }
 }
