@@ -9,7 +9,7 @@ A small file system in memory is mounted in a space of its own (unshare), where 
 - the output folder on a disk that is full to the last byte and folder before the run: `fault: H9` before the first job;
 - the work folder: a job fails, or a call for one, and the run ends with its fault and not well; nothing is delivered;
 - the record: a run whose rows can't be put ends well, with the right output;
-- the archive: the same, and no row of its record says that it is archived without its files.
+- the archive: the same, and no row of its record says that it is archived without its files; one line says how many could not be kept.
 The status is 1 where something is not so. Needs Linux, unshare and mount, sqlite3 and Python 3.8 or later.
 """
 
@@ -62,11 +62,11 @@ class Scene:
                 os.remove(f"{self.folder}/{it}")
         os.makedirs(f"{self.folder}/run", exist_ok=True)
 
-    def ran(self, work="run/work", out="out", record=None, archive=None):
+    def ran(self, work="run/work", out="out", record=None, archive=None, explain=("--explain",)):
         """Runs, and returns the status, what was printed, the lines of standard error, and how many jobs started."""
         shutil.rmtree(f"{self.folder}/run/work", ignore_errors=True)
         more = [*(["--record", record] if record else []), *(["--archive", archive] if archive else [])]
-        words = [self.program, "run", "--explain", "--work", work, "--outdir", out, *more, "document", "inputs"]
+        words = [self.program, "run", *explain, "--work", work, "--outdir", out, *more, "document", "inputs"]
         ran = subprocess.run(words, cwd=self.folder, stdin=subprocess.DEVNULL, stdout=subprocess.PIPE, stderr=subprocess.PIPE, text=True, timeout=SECONDS, check=False)
         started = f"{self.folder}/started"
         # (how many jobs were loaded and computed is said of each success)
@@ -132,8 +132,10 @@ def full_record(one):
         if status == 3 and told[:1] == ["fault: R4"] and not started:
             more.append(f"{kilobytes} kB: fault: R4 before any job")
             continue
-        wrong += ([f"{kilobytes} kB: it ends with {status}: {told}"] if status or told else []) + printed_wrong(said)
-        more.append(f"{kilobytes} kB: {rows_of(f'{one.disk}/jobs.db')} of {JOBS} rows")
+        wrong += ([f"{kilobytes} kB: it ends with {status}: {told}"] if status else []) + printed_wrong(said)
+        rows = rows_of(f"{one.disk}/jobs.db")
+        wrong += lines_wrong(told, JOBS - rows, "rows the record refused: R4")
+        more.append(f"{kilobytes} kB: {rows} of {JOBS} rows")
     return wrong, "; ".join(more)
 
 
@@ -150,10 +152,18 @@ def rows_of(path):
             store.close()
 
 
+def lines_wrong(told, count, what):
+    """Returns what is wrong with the one line on so many jobs that were not kept."""
+    if not count and not told:
+        return []
+    line = re.fullmatch(rf'not kept: "main/\S+"(?: and (\d+) more jobs?)?, whose {what}', "\n".join(told))
+    return [] if line and 1 + int(line[1] or 0) == count else [f"{count} jobs are not kept, and the errors say {told}"]
+
+
 def full_archive(one):
     one.mount(450, 100)
-    status, said, told, _ = one.ran(record="jobs.db", archive="disk/files")
-    wrong = ([f"it ends with {status}: {told}"] if status or told else []) + printed_wrong(said)
+    status, said, told, _ = one.ran(record="jobs.db", archive="disk/files", explain=())
+    wrong = ([f"it ends with {status}: {told}"] if status else []) + printed_wrong(said)
     store = sqlite3.connect(f"{one.folder}/jobs.db")
     found = store.execute("SELECT key, files, archived FROM job").fetchall()
     store.close()
@@ -166,6 +176,8 @@ def full_archive(one):
                 wrong.append(f"a row says archived, and {name} is not whole")
     if len(found) != JOBS:
         wrong.append(f"{len(found)} rows")
+    # it is said though no words were asked for
+    wrong += lines_wrong(told, JOBS - archived, r"files could not be stored in \S+: there is no room")
     return wrong, f"{archived} of {len(found)} rows are archived"
 
 

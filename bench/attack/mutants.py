@@ -3,7 +3,7 @@
 usage: mutants.py PROGRAM [COUNT [SEED [KIND..]]]      100,000 in all and 1 where they are not given; KIND is a word of KINDS below
        mutants.py PROGRAM --only KIND NUMBER [SEED]    one of them, whose files stay, and what came of it
 
-The texts that are altered are those of the rows (crates/*/stdin), of examples/ and of crates/run_rows/data. mutations.py says how. Whatever it is given, the program
+The texts that are altered are those of the rows (crates/*/stdin), of examples/ and of the rows' data. mutations.py says how. Whatever it is given, the program
 - ends by itself within SECONDS of processor, and within ten times as long, in at most MEGABYTES of memory, with status 0, 1, 2, 3 or 33;
 - writes a result to standard output where the status says so, one line of it, and else nothing;
 - says on standard error what the status means, in one line and by a code that there is; with --explain, which half of the calls have, more lines may follow, and none has
@@ -82,7 +82,7 @@ def texts():
         value = json.loads(content_of(path))
         if "cwlVersion" in value:
             pairs.append((value, {"text": {"class": "File", "location": "given"}, "texts": [{"class": "File", "location": "given"}], "loud": True}))
-    plans = [content_of(it) for it in sorted(glob.glob(f"{TOP}/examples/*/*.plan") + glob.glob(f"{TOP}/crates/run_rows/data/*.txt"))]
+    plans = [content_of(it) for it in sorted(glob.glob(f"{TOP}/examples/*/*.plan") + glob.glob(f"{TOP}/crates/run_rows/data/*.txt") + glob.glob(f"{TOP}/tests/program/data/*.txt"))]
     whole = [it for it in plans if it.startswith(b"cwl-plan 1\n") and it.count(b"\n") > 3]
     return [(json.dumps(it).encode(), json.dumps(inputs).encode()) for it, inputs in pairs], whole
 
@@ -112,7 +112,7 @@ class Case:
         put(f"{self.folder}/hello", json.dumps(HELLO).encode())
         put(f"{self.folder}/abc", b'{"t":"abc"}')
         write_record(f"{self.top}/jobs.db")
-        self.databases = [f"{self.top}/jobs.db", *sorted(glob.glob(f"{TOP}/crates/run_rows/data/*.db"))]
+        self.databases = [f"{self.top}/jobs.db", *sorted(glob.glob(f"{TOP}/crates/run_rows/data/*.db") + glob.glob(f"{TOP}/tests/program/data/*.db"))]
         self.pages = [content_of(it) for it in self.databases]
         resource.setrlimit(resource.RLIMIT_FSIZE, (64 << 20, 64 << 20))
         resource.setrlimit(resource.RLIMIT_CORE, (0, 0))

@@ -24,18 +24,6 @@ pub fn program(rt: &HostRuntime, row: &Row) -> Result<String, RowFault> {
     Ok(format!(in alloc; "{{\"status\":{status},\"out\":{out},\"err\":{err}}}")?)
 }
 
-/// What the program answers where its output takes eight bytes alone.
-pub fn program_out_of_room(rt: &HostRuntime, row: &Row) -> Result<String, RowFault> {
-    let alloc = rt.alloc();
-    let words = words_of(alloc, row)?;
-    let mut room = [0; 8];
-    let mut out = room.as_mut_slice();
-    let mut err = Vec::new(alloc);
-    let status = main_run(rt, words.as_slice(), "/bin", &mut out, &mut err);
-    let err = written(alloc, err.as_slice())?;
-    Ok(format!(in alloc; "{{\"status\":{status},\"err\":{err}}}")?)
-}
-
 fn written(alloc: Global, bytes: &[u8]) -> Result<String, RowFault> {
     match str::from_utf8(bytes) {
         Ok(text) => quoted(alloc, text),
