@@ -3,7 +3,7 @@
 usage: mutants.py PROGRAM [COUNT [SEED [KIND..]]]      100,000 in all and 1 where they are not given; KIND is a word of KINDS below
        mutants.py PROGRAM --only KIND NUMBER [SEED]    one of them, whose files stay, and what came of it
 
-The texts that are altered are those of the rows (crates/*/stdin), of examples/ and of the rows' data. mutations.py says how. Whatever it is given, the program
+The texts that are altered are those of the rows (crates/*/stdin, tests/program/rows), of examples/ and of the rows' data. mutations.py says how. Whatever it is given, the program
 - ends by itself within SECONDS of processor, and within ten times as long, in at most MEGABYTES of memory, with status 0, 1, 2, 3 or 33;
 - writes a result to standard output where the status says so, one line of it, and else nothing;
 - says on standard error what the status means, in one line and by a code that there is; with --explain, which half of the calls have, more lines may follow, and none has
@@ -69,7 +69,7 @@ def put(path, content):
 
 
 def rows():
-    for path in sorted(glob.glob(f"{TOP}/crates/*/stdin")):
+    for path in [*sorted(glob.glob(f"{TOP}/crates/*/stdin")), f"{TOP}/tests/program/rows"]:
         for line in content_of(path).splitlines():
             if line.startswith(b"{"):
                 yield json.loads(line)

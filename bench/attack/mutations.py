@@ -113,7 +113,8 @@ def altered_json(chance, text, others):
         return altered_bytes(chance, text, others)
     try:
         return altered_value(chance, text, [json.loads(it) for it in chance.sample(others, min(3, len(others)))])
-    except RecursionError:
+    except (RecursionError, MemoryError):
+        # (pieces that were put into one another grew too large)
         return text
 
 

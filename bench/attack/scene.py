@@ -157,8 +157,9 @@ class Scene:
         return wrong
 
     def rows(self):
-        """Returns the rows of a copy of the record, and what sqlite3 says of its integrity. A file that isn't there has no row."""
-        if not os.path.exists(self.record):
+        """Returns the rows of a copy of the record, and what sqlite3 says of its integrity. A file that isn't there has no row, nor has one
+        whose making was cut off: its first byte is written last, and the next run makes it anew."""
+        if not os.path.exists(self.record) or content_of(self.record)[:1] == b"\0":
             return [], "ok"
         copy = f"{self.folder}/copy"
         os.makedirs(copy)
