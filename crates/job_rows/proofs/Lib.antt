@@ -1,2 +1,4 @@
 mod InMemory
 pub mod ReadBack
+mod Losing
+mod InStep

@@ -3,7 +3,7 @@ use Rattle.std.specs.Prelude.{ℕ, List, [], ◌∷◌, codes, Option, Some, Non
 use Rattle.job_rows.specs.declared.log.Command.{Command}
 use Rattle.job_rows.specs.declared.log.Entry.{Entry}
 use Rattle.job_rows.specs.declared.refusal.RecordRefusal.{RecordRefusal}
-use Rattle.job_rows.specs.declared.refusal.RecordRefusal.TheVariants.{NotARecord, WrongVersion, NoRow, Store}
+use Rattle.job_rows.specs.declared.refusal.RecordRefusal.TheVariants.{NotARecord, WrongVersion, NoRow, Store, UsesSpent}
 use Rattle.job_rows.specs.declared.refusal.RecordError.{RecordError}
 use Rattle.job_rows.specs.declared.refusal.RecordError.TheVariants.{Refused, OutOfMemory}
 
@@ -13,6 +13,7 @@ code_of NotARecord = codes "R1"
 code_of WrongVersion = codes "R2"
 code_of NoRow = codes "R3"
 code_of Store = codes "R4"
+code_of UsesSpent = codes "R5"
 
 -- what the log says of a command: done, its refusal, or nothing where memory ran out
 abbrev pub told_of : {T : Type 0} → Result T RecordError → Option (Result (Unit {0}) RecordRefusal)

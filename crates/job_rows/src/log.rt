@@ -11,6 +11,7 @@ use std::alloc::{AllocError, Global};
 pub enum Command {
     Find,
     Put,
+    Touch,
     DropArchive,
     Forget,
 }

@@ -1,24 +1,28 @@
-ghost use Rattle.std.specs.Prelude.{◌≡◌, ◌++◌, [], IfOk, IfSome, IfErr, OnOk, OnErr};
+ghost use Rattle.std.specs.Prelude.{◌≡◌, ◌++◌, [], option_map, IsTrue, IsSome, IfOk, IfSome, IfErr, OnOk, OnErr};
 ghost use Rattle.plain_data.specs.ByName.{value_at, with_value};
 ghost use Rattle.job_rows.specs.declared.log.Command.TheVariants as command;
 ghost use Rattle.job_rows.specs.declared.refusal.RecordError.TheVariants.{OutOfMemory};
 ghost use Rattle.job_rows.specs.Log.{entries_of, told_of};
-ghost use Rattle.job_rows.specs.Map.{RowMap, Finds, Puts, Drops};
-ghost use Rattle.job_rows.specs.Memory.{IsMapOf, Unarchives, RefusesToUnarchive};
+ghost use Rattle.job_rows.specs.Map.{RowMap, Finds, Puts, Touches, Drops, AreUnspent, keeps_archive, left_for, lost_by, without_archive};
+ghost use Rattle.job_rows.specs.Memory.{IsMapOf, Stays, SetsRow, TouchesArchive, DropsArchive, CannotPut, CannotTouch, CannotDrop, row_at, row_with};
 
+use crate::archive::Archive;
+use crate::archives::{self, Ready};
 use crate::log::{note, room, told_of};
 use crate::{Command, Entry, Record, RecordError, RecordRefusal, Row};
-use plain_data::{Keyed, Text};
-use std::alloc::Global;
+use plain_data::{Items, Keyed, Text};
+use std::alloc::{AllocError, Global};
 use std::marker::Model;
 
 /// A record that is kept in memory alone, and ends with the run.
 ///
-/// Nothing but want of memory refuses its calls, and R3 where `drop_archive` finds no row.
+/// A row is archived where its key has an archive, whatever the flag says with which it stands here.
 #[derive(Drop)]
 pub struct MemoryRecord {
     alloc: Global,
     rows: Keyed<Row>,
+    archives: Vec<Archive>,
+    budget: Option<u64>,
     log: Vec<Entry>,
 }
 
@@ -32,20 +36,29 @@ impl Model for MemoryRecord {
     ghost coded = { Prim.hlevel (codes, value.the_row.coded) };
 
     ghost use Rattle.job_rows.specs.Memory.{HaveTheirKeys};
+    ghost use Rattle.job_rows.specs.InStep.{AreApart};
 
-    ghost view = { λ fields. record { rows = fields.rows; log = fields.log.items } };
+    ghost view = { λ fields. record {
+      rows = fields.rows;
+      archives = fields.archives.items;
+      budget = fields.budget;
+      log = fields.log.items;
+    } };
 
-    ghost invariant = { λ fields. HaveTheirKeys fields.rows };
+    ghost invariant = { λ fields. HaveTheirKeys fields.rows × AreApart fields.archives.items };
 }
 
 impl MemoryRecord {
-    /// A record with no row, of which nothing was asked.
-    pub fn new(alloc: Global) -> MemoryRecord
-        ensures { result ≡ record { rows = []; log = [] } }
+    /// A record with no row, of which nothing was asked. Its archives have together at most as many bytes as the budget, if
+    /// there is one.
+    pub fn new(alloc: Global, budget: Option<u64>) -> MemoryRecord
+        ensures { result ≡ record { rows = []; archives = []; budget = budget; log = [] } }
     {
         MemoryRecord {
             alloc,
             rows: Keyed::new(alloc),
+            archives: Vec::new(alloc),
+            budget,
             log: Vec::new(alloc),
         }
     }
@@ -63,39 +76,65 @@ impl Record for MemoryRecord {
 
     ghost is_sound = { λ memory. Unit {0} };
 
-    ghost holds = { λ memory map. IsMapOf memory.rows map };
+    ghost holds = { λ memory map. IsMapOf memory map };
 
     fn find(&mut self, key: &Text) -> Result<Option<Row>, RecordError>
         ensures logged { self.new.log ≡ self.old.log
             ++ entries_of command.Find key.now (told_of result) }
         ensures keyed { IfOk result (λ found. IfSome found (λ row. row.key ≡ key.now)) }
         ensures sound { Unit {0} → Unit {0} }
-        ensures finds { Unit {0} → (map : RowMap) → IsMapOf self.old.rows map
-            → Finds map key.now result × IsMapOf self.new.rows map }
-        ensures found { IfOk result (λ found. found ≡ value_at key.now self.old.rows) }
+        ensures finds { Unit {0} → (map : RowMap) → IsMapOf self.old map
+            → Finds map key.now result × IsMapOf self.new map }
+        ensures found { IfOk result (λ found. found ≡ row_at key.now self.old) }
         ensures memory { IfErr result (λ e. e ≡ OutOfMemory) }
-        ensures same { self.new.rows ≡ self.old.rows }
+        ensures same { Stays self.old self.new }
     {
         let noted = room(self.alloc, &mut self.log, key)?;
-        let answer = row_of(self.alloc, &self.rows, key);
+        let answer = row_of(self.alloc, &self.rows, self.archives.as_slice(), key);
         note(&mut self.log, Command::Find, noted, told_of(&answer));
         answer
     }
 
-    fn put(&mut self, row: &Row) -> Result<(), RecordError>
+    fn put(&mut self, row: &Row) -> Result<Items<Text>, RecordError>
         ensures logged { self.new.log ≡ self.old.log
             ++ entries_of command.Put row.now.key (told_of result) }
         ensures sound { Unit {0} → Unit {0} }
-        ensures puts { Unit {0} → (map : RowMap) → IsMapOf self.old.rows map
-            → Puts (IsMapOf self.new.rows) map row.now result }
-        ensures set { OnOk result (self.new.rows
-            ≡ with_value row.now.key row.now self.old.rows) }
-        ensures same { OnErr result (self.new.rows ≡ self.old.rows) }
-        ensures memory { IfErr result (λ e. e ≡ OutOfMemory) }
+        ensures puts { Unit {0} → (map : RowMap) → IsMapOf self.old map
+            → Puts (IsMapOf self.new) map row.now result }
+        ensures set { OnOk result (SetsRow row.now self.old self.new) }
+        ensures lost { IfOk result (λ keys. keys
+            ≡ lost_by row.now self.old.budget self.old.archives) }
+        ensures numbered { OnOk result (IsTrue (keeps_archive row.now self.old.budget)
+            → AreUnspent self.old.archives) }
+        ensures same { OnErr result (Stays self.old self.new) }
+        ensures refused { IfErr result (CannotPut row.now self.old.budget self.old.archives) }
     {
         let noted = room(self.alloc, &mut self.log, &row.key)?;
-        let answer = set(self.alloc, &mut self.rows, row);
+        let answer = set(
+            self.alloc,
+            &mut self.rows,
+            &mut self.archives,
+            self.budget,
+            row,
+        );
         note(&mut self.log, Command::Put, noted, told_of(&answer));
+        answer
+    }
+
+    fn touch(&mut self, key: &Text) -> Result<(), RecordError>
+        ensures logged { self.new.log ≡ self.old.log
+            ++ entries_of command.Touch key.now (told_of result) }
+        ensures sound { Unit {0} → Unit {0} }
+        ensures touches { Unit {0} → (map : RowMap) → IsMapOf self.old map
+            → Touches (IsMapOf self.new) map key.now result }
+        ensures done { OnOk result (TouchesArchive key.now self.old self.new) }
+        ensures numbered { OnOk result (AreUnspent self.old.archives) }
+        ensures same { OnErr result (Stays self.old self.new) }
+        ensures refused { IfErr result (CannotTouch key.now self.old.archives) }
+    {
+        let noted = room(self.alloc, &mut self.log, key)?;
+        let answer = archives::touch(self.alloc, &mut self.archives, key);
+        note(&mut self.log, Command::Touch, noted, told_of(&answer));
         answer
     }
 
@@ -103,57 +142,82 @@ impl Record for MemoryRecord {
         ensures logged { self.new.log ≡ self.old.log
             ++ entries_of command.DropArchive key.now (told_of result) }
         ensures sound { Unit {0} → Unit {0} }
-        ensures drops { Unit {0} → (map : RowMap) → IsMapOf self.old.rows map
-            → Drops (IsMapOf self.new.rows) map key.now result }
-        ensures done { OnOk result (Unarchives key.now self.old.rows self.new.rows) }
-        ensures same { OnErr result (self.new.rows ≡ self.old.rows) }
-        ensures refused { IfErr result (RefusesToUnarchive key.now self.old.rows) }
+        ensures drops { Unit {0} → (map : RowMap) → IsMapOf self.old map
+            → Drops (IsMapOf self.new) map key.now result }
+        ensures done { OnOk result (DropsArchive key.now self.old self.new) }
+        ensures same { OnErr result (Stays self.old self.new) }
+        ensures refused { IfErr result (CannotDrop key.now self.old.rows) }
     {
         let noted = room(self.alloc, &mut self.log, key)?;
-        let answer = unarchive(self.alloc, &mut self.rows, key);
+        let answer = unarchive(&self.rows, &mut self.archives, key);
         note(&mut self.log, Command::DropArchive, noted, told_of(&answer));
         answer
     }
 }
 
 // A copy of the row of a key, if there is one.
-fn row_of(alloc: Global, rows: &Keyed<Row>, key: &Text) -> Result<Option<Row>, RecordError>
-    ensures found { IfOk result (λ found. found ≡ value_at key.now rows.now) }
+fn row_of(
+    alloc: Global,
+    rows: &Keyed<Row>,
+    archives: &[Archive],
+    key: &Text,
+) -> Result<Option<Row>, RecordError>
+    ensures found { IfOk result (λ found. found
+        ≡ option_map (row_with key.now archives.now) (value_at key.now rows.now)) }
     ensures memory { IfErr result (λ e. e ≡ OutOfMemory) }
 {
     match rows.get(key.as_str()) {
-        Some(row) => Ok(Some(row.clone_in(alloc)?)),
+        Some(row) => Ok(Some(row_with(alloc, archives, key, row)?)),
         None => Ok(None),
     }
 }
 
-// Sets the row of its key.
-fn set(alloc: Global, rows: &mut Keyed<Row>, row: &Row) -> Result<(), RecordError>
-    ensures ok { OnOk result (rows.new ≡ with_value row.now.key row.now rows.old) }
-    ensures err { OnErr result (rows.new ≡ rows.old) }
-    ensures memory { IfErr result (λ e. e ≡ OutOfMemory) }
+// A copy of the row of a key: it is archived where the key has an archive.
+fn row_with(alloc: Global, archives: &[Archive], key: &Text, row: &Row) -> Result<Row, AllocError>
+    ensures { IfOk result (λ copy. copy ≡ row_with key.now archives.now row.now) }
 {
-    let key = row.key.copied(alloc)?;
-    rows.insert(key, row.clone_in(alloc)?)?;
-    Ok(())
+    let copy = row.clone_in(alloc)?;
+    Ok(Row {
+        archived: archives::has_archive(archives, key),
+        ..copy
+    })
 }
 
-// Notes that the archive of a key's row is gone. The key has its row already, so only the copies need memory.
-fn unarchive(alloc: Global, rows: &mut Keyed<Row>, key: &Text) -> Result<(), RecordError>
-    ensures ok { OnOk result (Unarchives key.now rows.old rows.new) }
-    ensures same { OnErr result (rows.new ≡ rows.old) }
-    ensures err { IfErr result (RefusesToUnarchive key.now rows.old) }
+// Sets the row of its key, and returns the keys that are without their archive by it.
+fn set(
+    alloc: Global,
+    rows: &mut Keyed<Row>,
+    archives: &mut Vec<Archive>,
+    budget: Option<u64>,
+    row: &Row,
+) -> Result<Items<Text>, RecordError>
+    ensures rows { OnOk result (rows.new ≡ with_value row.now.key row.now rows.old) }
+    ensures archives { OnOk result (archives.new.items
+        ≡ left_for row.now budget archives.old.items) }
+    ensures lost { IfOk result (λ keys. keys ≡ lost_by row.now budget archives.old.items) }
+    ensures can { OnOk result (IsTrue (keeps_archive row.now budget)
+        → AreUnspent archives.old.items) }
+    ensures same { OnErr result ((rows.new ≡ rows.old)
+        × (archives.new.items ≡ archives.old.items)) }
+    ensures err { IfErr result (CannotPut row.now budget archives.old.items) }
 {
-    let Some(row) = row_of(alloc, rows, key)? else {
+    let ready = Ready::new(alloc, archives, budget, row)?;
+    let key = row.key.copied(alloc)?;
+    rows.insert(key, row.clone_in(alloc)?)?;
+    Ok(ready.put(archives, budget, row))
+}
+
+// Notes that the archive of a key's row is gone.
+fn unarchive(rows: &Keyed<Row>, archives: &mut Vec<Archive>, key: &Text) -> Result<(), RecordError>
+    ensures there { OnOk result (IsSome (value_at key.now rows.now)) }
+    ensures ok { OnOk result (archives.new.items
+        ≡ without_archive key.now archives.old.items) }
+    ensures same { OnErr result (archives.new.items ≡ archives.old.items) }
+    ensures err { IfErr result (CannotDrop key.now rows.now) }
+{
+    if !rows.contains(key.as_str()) {
         return Err(RecordError::Refused(RecordRefusal::NoRow));
-    };
-    let key = key.copied(alloc)?;
-    rows.insert(
-        key,
-        Row {
-            archived: false,
-            ..row
-        },
-    )?;
+    }
+    archives::remove(archives, key);
     Ok(())
 }

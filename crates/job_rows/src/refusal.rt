@@ -13,14 +13,16 @@ pub enum RecordRefusal {
     NotARecord,
     /// R2: the record has another version.
     WrongVersion,
-    /// R3: no row has this key.
+    /// R3: no row has this key, or for a use no archived row.
     NoRow,
     /// R4: the store refused.
     Store,
+    /// R5: no number is left for the next use of an archive.
+    UsesSpent,
 }
 
 impl RecordRefusal {
-    /// The refusal's code in reports, `R1` to `R4`.
+    /// The refusal's code in reports, `R1` to `R5`.
     pub fn code(self) -> &'static str
         ensures { result.now ≡ code_of self }
     {
@@ -29,6 +31,7 @@ impl RecordRefusal {
             RecordRefusal::WrongVersion => "R2",
             RecordRefusal::NoRow => "R3",
             RecordRefusal::Store => "R4",
+            RecordRefusal::UsesSpent => "R5",
         }
     }
 
@@ -38,6 +41,7 @@ impl RecordRefusal {
             RecordRefusal::WrongVersion => "the record has another version",
             RecordRefusal::NoRow => "no row has this key",
             RecordRefusal::Store => "the store of the record refused",
+            RecordRefusal::UsesSpent => "no number is left for the use of an archive",
         }
     }
 }

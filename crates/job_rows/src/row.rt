@@ -1,5 +1,7 @@
 ghost use Rattle.std.specs.Prelude.{◌≡◌, IfOk};
+ghost use Rattle.job_rows.specs.Map.{bytes_of};
 
+use crate::archives::GREATEST_NUMBER;
 use cwl_value::{Value, copy_fields};
 use plain_data::{Items, Keyed, Text};
 use staging::Found;
@@ -33,6 +35,17 @@ impl Row {
             cost: self.cost,
             archived: self.archived,
         })
+    }
+
+    /// How many bytes its files have together, held to the greatest number that a store has.
+    pub fn bytes(&self) -> u64
+        ensures { result ≡ bytes_of self.now }
+    {
+        let mut bytes: u64 = 0;
+        for found in self.files.as_slice() {
+            bytes = bytes.saturating_add(found.size);
+        }
+        bytes.min(GREATEST_NUMBER)
     }
 }
 

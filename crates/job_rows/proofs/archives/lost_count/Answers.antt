@@ -1,0 +1,10 @@
+use Rattle.std.proofs.Common.{sym, arith}
+use Rattle.job_rows.proofs.Losing.{count_stops}
+use Rattle.job_rows.proofs.archives.lost_count.Goals as goal
+
+pub returns-else-archives-count : goal.returns-else-archives-count
+returns-else-archives-count c =
+    rw c.in-Some.is (sym (
+    count_stops c.in-Some.most c.args.archives.now c.loop-count.count c.loop-count.room c.index-archives-count.result c.loop-count.invariant.within c.loop-count.invariant.room (omega (arith, c.loop-count-test.true))
+    (omega (arith, c.if-archives-count.false))
+    ))
