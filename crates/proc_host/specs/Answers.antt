@@ -23,6 +23,7 @@ fault_of (HostRequest.Head path limit) = HostFault.Head
 fault_of (HostRequest.Fetch key number files) = HostFault.Fetch
 fault_of (HostRequest.Store key folder files) = HostFault.Store
 fault_of (HostRequest.Deliver plan) = HostFault.Deliver
+fault_of (HostRequest.Discard key) = HostFault.Discard
 
 -- whether each of the second entries has the name of one of the first
 abbrev pub are_among : List Found → List Found → Bool
@@ -43,6 +44,7 @@ pub data CanAnswer (running : List ℕ) : HostRequest → HostAnswer → Type 0 
       CanAnswer running (HostRequest.Fetch key number files) (HostAnswer.Fetched found)
   is_stored : (key folder : List ℕ) (files : List Found) → CanAnswer running (HostRequest.Store key folder files) HostAnswer.Done
   is_delivered : (plan : StagePlan) → CanAnswer running (HostRequest.Deliver plan) HostAnswer.Done
+  is_discarded : (key : List ℕ) → CanAnswer running (HostRequest.Discard key) HostAnswer.Done
   has_failed : (request : HostRequest) → CanAnswer running request (HostAnswer.Failed (fault_of request))
 
 -- the children in flight after an answer, where one that has ended is closed

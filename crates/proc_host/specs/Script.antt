@@ -47,6 +47,8 @@ answer_by state (requests.Store key folder files) (Some replies.Store) = answers
 answer_by state (requests.Store key folder files) _ = answers.Failed faults.Store
 answer_by state (requests.Deliver plan) (Some replies.Deliver) = answers.Done
 answer_by state (requests.Deliver plan) _ = answers.Failed faults.Deliver
+answer_by state (requests.Discard key) (Some replies.Discard) = answers.Done
+answer_by state (requests.Discard key) _ = answers.Failed faults.Discard
 
 abbrev pub answer_of : ScriptState → HostRequest → HostAnswer
 answer_of state request = answer_by state request (slice_get state.script 0)

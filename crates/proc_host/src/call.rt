@@ -28,6 +28,8 @@ pub enum HostRequest {
     /// To archive under a key what was found in a folder.
     Store(Text, Text, Items<Found>),
     Deliver(StagePlan),
+    /// To remove what is archived under a key.
+    Discard(Text),
 }
 
 /// The request of a fetch, in memory of its own.
@@ -85,10 +87,11 @@ pub enum HostFault {
     Fetch,
     Store,
     Deliver,
+    Discard,
 }
 
 impl HostFault {
-    /// The fault's code in reports, `H1` to `H9`.
+    /// The fault's code in reports, `H1` to `H10`.
     pub fn code(self) -> &'static str
         ensures { result.now ≡ code_of self }
     {
@@ -102,6 +105,7 @@ impl HostFault {
             HostFault::Fetch => "H7",
             HostFault::Store => "H8",
             HostFault::Deliver => "H9",
+            HostFault::Discard => "H10",
         }
     }
 }

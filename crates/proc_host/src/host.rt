@@ -106,6 +106,14 @@ pub trait Host {
         ensures own { FailsOnlyBy (fault_of (HostRequest.Deliver plan.now)) result }
         ensures running { running self.new ≡ running self.old };
 
+    /// Removes what is archived under a key. If nothing is, there is nothing to do.
+    fn discard(&mut self, key: &Text) -> Result<(), HostError>
+        ensures logged { log self.new ≡ log self.old
+            ++ entries_of (HostRequest.Discard key.now)
+            (answer_behind (λ _. HostAnswer.Done) result) }
+        ensures own { FailsOnlyBy (fault_of (HostRequest.Discard key.now)) result }
+        ensures running { running self.new ≡ running self.old };
+
     /// Spends a ticket, without memory. A child that still runs under it is no longer watched.
     fn close(&mut self, ticket: Ticket)
         ensures logged { log self.new ≡ log self.old }

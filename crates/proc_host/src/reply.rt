@@ -14,4 +14,5 @@ pub enum Reply {
     Fetch(Items<Found>),
     Store,
     Deliver,
+    Discard,
 }

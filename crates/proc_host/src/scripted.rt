@@ -427,6 +427,27 @@ impl Host for Scripted {
         Err(self.refuse(request, HostFault::Deliver))
     }
 
+    fn discard(&mut self, key: &Text) -> Result<(), HostError>
+        ensures logged { self.new.log ≡ self.old.log
+            ++ entries_of (HostRequest.Discard key.now)
+            (answer_behind (λ _. HostAnswer.Done) result) }
+        ensures own { FailsOnlyBy HostFault.Discard result }
+        ensures running { self.new.running ≡ self.old.running }
+        ensures scripted { Answers self.old (HostRequest.Discard key.now)
+            (answer_behind (λ _. HostAnswer.Done) result) self.new }
+    {
+        let request = HostRequest::Discard(key.copied(self.alloc)?);
+        if let Some(Reply::Discard) = self.script.get(self.given) {
+            self.log.push(Entry {
+                request,
+                answer: HostAnswer::Done,
+            })?;
+            self.given += 1;
+            return Ok(());
+        }
+        Err(self.refuse(request, HostFault::Discard))
+    }
+
     fn close(&mut self, ticket: Ticket)
         ensures logged { self.new.log ≡ self.old.log }
         ensures closed { self.new.running ≡ without ticket self.old.running }

@@ -8,6 +8,7 @@ use crate::archive::fetch_folder;
 use crate::clearing::clear_job;
 use crate::collecting::next_end;
 use crate::delivering::deliver_all;
+use crate::discarding::discard_all;
 use crate::fetching::fetch_all;
 use crate::heads::head_of;
 use crate::hearing::Hear;
@@ -309,6 +310,23 @@ pub(crate) fn deliver<R: World>(
     let found = missed.told(rt.alloc(), plan.moves.as_slice(), outcome);
     mem::drop(mem::replace(hindered, found));
     told(log, request, HostFault::Deliver, outcome)
+}
+
+/// Removes what is archived under a key.
+pub(crate) fn discard<R: World>(
+    rt: &R,
+    log: &mut Vec<Entry>,
+    archive: Option<&str>,
+    key: &Text,
+) -> Result<(), HostError>
+    ensures logged { log.new.items ≡ log.old.items
+        ++ entries_of (HostRequest.Discard key.now) (answer_behind (λ _. HostAnswer.Done) result) }
+    ensures own { FailsOnlyBy HostFault.Discard result }
+{
+    make_room(log)?;
+    let request = HostRequest::Discard(key.copied(rt.alloc())?);
+    let outcome = discard_all(rt, archive, key.as_str());
+    told(log, request, HostFault::Discard, outcome)
 }
 
 // The next end of a child whose ticket was not closed.

@@ -96,6 +96,10 @@ where
         self.machine.deliver(plan)
     }
 
+    fn discard(&mut self, key: &Text) -> Result<(), HostError> {
+        self.machine.discard(key)
+    }
+
     fn close(&mut self, ticket: Ticket) {
         self.machine.close(ticket);
     }

@@ -14,6 +14,7 @@ mod collecting;
 mod copying;
 mod cut_off;
 mod delivering;
+mod discarding;
 mod entries;
 mod fetching;
 mod heads;

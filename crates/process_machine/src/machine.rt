@@ -69,7 +69,7 @@ impl<R: World> Model for Machine<R> {
 impl<R: World> Machine<R> {
     /// A machine whose jobs have their folders in `work`, which has to be there, whose jobs' outputs are archived in `archive`, and
     /// whose outputs are delivered to `outdir`. These are paths from the root, since children run in folders of their own. Without an
-    /// archive each fetch and each store fails.
+    /// archive each fetch, store and discard fails.
     pub fn new(rt: R, work: Text, archive: Option<Text>, outdir: Text) -> Machine<R>
         ensures { result ≡ record { log = []; running = []; guarded = [] } }
     {
@@ -270,6 +270,10 @@ where
             plan,
             &mut self.hindered,
         )
+    }
+
+    fn discard(&mut self, key: &Text) -> Result<(), HostError> {
+        calls::discard(&self.rt, &mut self.log, path_in(&self.archive), key)
     }
 
     fn close(&mut self, ticket: Ticket) {

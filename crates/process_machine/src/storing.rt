@@ -7,10 +7,10 @@ use crate::cut_off::clear_stores;
 use crate::entries::{Sink, put_all};
 use crate::layout::{joined, make_own};
 use crate::making::make_private;
-use crate::trouble::Trouble;
+use crate::trouble::{Trouble, where_present};
 use crate::world::World;
 use staging::Found;
-use std::{fs, io, mem};
+use std::{fs, mem};
 
 // A new folder of an archive, and the folder that its files are copied from.
 #[derive(Drop)]
@@ -117,15 +117,6 @@ fn replace<R: World>(rt: &R, new: &str, path: &str, old: &str) -> Result<(), Tro
         let _back = fs::rename(rt, old, path);
     }
     Ok(put?)
-}
-
-// What is removed or moved need not be there.
-fn where_present(outcome: io::Result<()>) -> Result<(), Trouble> {
-    match outcome {
-        Ok(()) => Ok(()),
-        Err(error) if error.kind() == io::ErrorKind::NotFound => Ok(()),
-        Err(error) => Err(Trouble::from(error)),
-    }
 }
 
 impl<R: World> Sink for New<'_, R> {

@@ -51,6 +51,15 @@ pub(crate) fn or_trouble<T>(outcome: io::Result<T>) -> Result<T, Trouble> {
     }
 }
 
+/// What came of a removal or a move, which is done where nothing was there.
+pub(crate) fn where_present(outcome: io::Result<()>) -> Result<(), Trouble> {
+    match outcome {
+        Ok(()) => Ok(()),
+        Err(error) if error.kind() == io::ErrorKind::NotFound => Ok(()),
+        Err(error) => Err(Trouble::from(error)),
+    }
+}
+
 impl From<io::Error> for Trouble {
     fn from(error: io::Error) -> Trouble {
         Trouble::of(&error)
