@@ -1,9 +1,9 @@
 -- What is picked, by the tests that lead there.
 use Rattle.std.specs.Prelude.{OnErr}
-use Rattle.std.proofs.Common.{◌≡◌, ◌∙◌, ℕ, [], None, Some, Result, Ok, Err, refl, sym, ap, subst}
+use Rattle.std.proofs.Common.{◌≡◌, ◌∙◌, ℕ, List, [], None, Some, Result, Ok, Err, refl, sym, ap, subst}
 use Rattle.proc_host.specs.declared.call.HostFault.{HostFault}
 use Rattle.proc_host.specs.declared.call.HostRequest.{HostRequest}
-use Rattle.job_graph.specs.Words.{JobPlace}
+use Rattle.job_graph.specs.Words.{JobPlace, Name}
 use Rattle.job_rows.specs.declared.row.Row.{Row}
 use Rattle.run_core.specs.declared.state.Course.{Course}
 use Rattle.run_core.specs.declared.state.Given.{Given}
@@ -43,13 +43,15 @@ turns_asks given course number next call phase place turn is at so =
     (subst (λ (t : Turn). Turns given course number (JobNext.Asks call phase) t course) (sym (so ∙ ap (λ (p : JobPlace). works p number call phase) (sym at)))
     (asks call phase course refl refl))
 
--- after a call that is no collect and no store
+-- after a call that is no collect, no store and no discard
 pub fault_by : (given : Given) (old : Course) (asked : Request) (phase : Phase) (fault : HostFault) (turn : Turn) (new : Course) → (phase ≡ Phase.Collecting → ⊥) → (phase ≡ Phase.Draining → ⊥) →
-    ((number : ℕ) (row : Row) → phase ≡ Phase.Storing number row → ⊥) → AfterFault given old (asked_at asked) fault turn new → AfterFailure given old asked phase fault turn new
-fault_by given old asked Phase.Collecting fault turn new one other third after = absurd (one refl)
-fault_by given old asked Phase.Draining fault turn new one other third after = absurd (other refl)
-fault_by given old asked (Phase.Storing number row) fault turn new one other third after = absurd (third number row refl)
-fault_by given old asked phase fault turn new one other third after = after
+    ((number : ℕ) (row : Row) → phase ≡ Phase.Storing number row → ⊥) → ((number : ℕ) (left : List Name) → phase ≡ Phase.Discarding number left → ⊥) →
+    AfterFault given old (asked_at asked) fault turn new → AfterFailure given old asked phase fault turn new
+fault_by given old asked Phase.Collecting fault turn new one other third fourth after = absurd (one refl)
+fault_by given old asked Phase.Draining fault turn new one other third fourth after = absurd (other refl)
+fault_by given old asked (Phase.Storing number row) fault turn new one other third fourth after = absurd (third number row refl)
+fault_by given old asked (Phase.Discarding number left) fault turn new one other third fourth after = absurd (fourth number left refl)
+fault_by given old asked phase fault turn new one other third fourth after = after
 
 -- a job gives what its row has
 pub repeats_now : (given : Given) (old new : Course) (number : ℕ) (row : Row) (turn : Turn) → past_of new ≡ with_hand number (past_of old) → new.known ≡ old.known →

@@ -64,6 +64,7 @@ brought_waits (x ∷ states) (suc number) (suc m) = brought_waits states number 
 answered_elsewhere : (rows : List (Option Row)) (number m : ℕ) (answer : RecordAnswer) → m ≢ number → row_in (rows_after number answer rows) m ≡ row_in rows m
 answered_elsewhere rows number m (RecordAnswer.Found (Some row)) differ = set_elsewhere rows number m row (λ same. differ (sym same))
 answered_elsewhere rows number m (RecordAnswer.Found None) differ = refl
+answered_elsewhere rows number m (RecordAnswer.Put gone) differ = refl
 answered_elsewhere rows number m RecordAnswer.Done differ = refl
 answered_elsewhere rows number m (RecordAnswer.Refused refusal) differ = refl
 

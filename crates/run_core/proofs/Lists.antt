@@ -8,6 +8,10 @@ pub if_ok : {X E : Type 0} {P Q : X → Type 0} (result : Result X E) → ((x : 
 if_ok (Ok x) gives holds = gives x holds
 if_ok (Err error) gives holds = tt
 
+pub also_ok : {X E : Type 0} {P R : X → Type 0} {Q : Type 0} (result : Result X E) → ((x : X) → P x → Q → R x) → IfOk result P → OnOk result Q → IfOk result R
+also_ok (Ok x) gives holds too = gives x holds too
+also_ok (Err error) gives holds too = tt
+
 -- and where nothing is given
 pub where_ok : {X E : Type 0} {P Q : Type 0} (result : Result X E) → (P → Q) → OnOk result P → OnOk result Q
 where_ok (Ok x) leads holds = leads holds

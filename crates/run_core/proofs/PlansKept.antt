@@ -48,6 +48,7 @@ module _ (plans : PlansSoFar) where
       KeepsPlans plans (past_of new)
   row_planned place (RecordAnswer.Found (Some row)) old new known learns planned = learned_planned old new _ known learns planned
   row_planned place (RecordAnswer.Found None) old new known learns planned = planned_same (past_of old) (past_of new) learns.0 planned
+  row_planned place (RecordAnswer.Put gone) old new known learns planned = planned_same (past_of old) (past_of new) learns.0 planned
   row_planned place RecordAnswer.Done old new known learns planned = planned_same (past_of old) (past_of new) learns.0 planned
   row_planned place (RecordAnswer.Refused refusal) old new known learns planned = planned_same (past_of old) (past_of new) learns.0 planned
 

@@ -3,7 +3,7 @@ use Rattle.std.proofs.Common.{◌≡◌, ◌∙◌, ℕ, false, List, [], ◌∷
 use Rattle.proc_host.specs.declared.call.HostRequest.{HostRequest}
 use Rattle.run_rules.specs.declared.request.Request.{Request}
 use Rattle.run_rules.specs.Allowed.{due_in}
-use Rattle.run_rules.specs.Events.{Event, Work, nothing_due, input_heads_due, start_due, scan_due, output_heads_due, number_at, put_due, store_due, drop_due, is_fetched}
+use Rattle.run_rules.specs.Events.{Event, Work, nothing_due, input_heads_due, start_due, scan_due, output_heads_due, number_at, put_due, store_due, discard_due, drop_due, touch_due, is_fetched}
 use Rattle.run_rules.specs.Folders.{left_folder}
 use Rattle.run_rules.specs.Scene.{Scene}
 use Rattle.staging.specs.Groups.{path_in}
@@ -20,6 +20,8 @@ place_of (scan_due place millis) = place
 place_of (output_heads_due place millis found todo read) = place
 place_of (put_due place row) = place
 place_of (drop_due place its_key) = place
+place_of (touch_due place its_key) = place
+place_of (discard_due place its_key more) = place
 place_of (store_due place row) = place
 
 module _ (s : Scene) (es : List Event) where
@@ -35,6 +37,8 @@ module _ (s : Scene) (es : List Event) where
       ap (λ b. Some (Request.Host place (HostRequest.Head (path_in (left_folder s.options.work b (number_at es place)) name) (limit_of name)))) unfetched ∙ ap (option_map (λ (c : HostRequest). Request.Host place c)) is
   by_call (put_due place row) call unfetched is = absurd cc
   by_call (drop_due place its_key) call unfetched is = absurd cc
+  by_call (touch_due place its_key) call unfetched is = absurd cc
+  by_call (discard_due place its_key more) call unfetched is = absurd cc
   by_call (store_due place row) call unfetched is = absurd cc
 
   -- the call of the folders that the job was staged in last is due

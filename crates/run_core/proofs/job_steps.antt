@@ -10,6 +10,7 @@ pub mod Read
 pub mod Started
 pub mod Failed
 pub mod Found
+pub mod Discarded
 pub mod Fetched
 pub mod Ended
 pub mod Stored

@@ -2,6 +2,7 @@ pub mod Anyway
 pub mod Archives
 pub mod Attempts
 pub mod Course
+pub mod Discards
 pub mod Due
 pub mod Fetches
 pub mod Few

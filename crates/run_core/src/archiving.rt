@@ -6,7 +6,8 @@ ghost use Rattle.run_core.specs.inner.Picks.{PutsRow};
 ghost use Rattle.run_core.specs.inner.Turn.{keeps_row, stores};
 ghost use Rattle.run_rules.specs.Folders.{out_folder};
 
-use crate::course::{job_of, note_unarchived};
+use crate::NoteKind;
+use crate::course::{job_of, note};
 use crate::folders::out_folder;
 use crate::state::{Course, Given, Turn};
 use crate::turn::{putting, storing};
@@ -87,7 +88,7 @@ pub(crate) fn unarchived(
         (past_of course.old)) turn course.new) }
     ensures flying { OnErr result (course.new.tickets.items ≡ course.old.tickets.items) }
 {
-    match note_unarchived(alloc, course, number, fault) {
+    match note(alloc, course, number, NoteKind::Store(fault)) {
         Ok(()) => {
             row.archived = false;
             putting(alloc, &job_of(course, number).place, number, row)

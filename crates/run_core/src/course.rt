@@ -2,7 +2,7 @@
 ghost use Rattle.std.specs.Prelude.{◌≡◌, ◌<◌, ◌+◌, ◌^◌, [], None, Some, Contains, IfOk, OnErr, OnOk, length, map, slice_get, vec_len, vec_capacity};
 ghost use Rattle.job_graph.specs.declared.unfolding.Unfolding.{Unfolding as Held};
 ghost use Rattle.job_graph.specs.KnownJobs.{job_of as job_seen, known_of};
-ghost use Rattle.run_core.specs.inner.Course.{GivesUp, TakesOut, failure_in, families_in, known_in, nothing_past, past_of, place_at, put_note, store_note, with_answer, with_end, with_fault, with_load, with_loss, with_note, with_staging, with_start, drop_note, key_in};
+ghost use Rattle.run_core.specs.inner.Course.{GivesUp, TakesOut, failure_in, families_in, known_in, nothing_past, note_at, past_of, place_at, with_answer, with_end, with_fault, with_load, with_loss, with_note, with_staging, with_start, key_in};
 ghost use Rattle.run_core.specs.inner.Knows.{GivesAt, IsTold, LearnsUnlessOver, end_by};
 ghost use Rattle.run_core.specs.inner.Turn.{permanent};
 ghost use Rattle.run_rules.specs.declared.outcome.RunFault.{RunFault as Fault};
@@ -392,69 +392,22 @@ fn keep_row(
     }
 }
 
-/// The record refused to keep the row of the job of a number.
-pub(crate) fn note_refused_row(
+/// Notes what went wrong for the job of a number without changing the end.
+pub(crate) fn note(
     alloc: Global,
     course: &mut Course<'_>,
     number: usize,
-    refusal: RecordRefusal,
+    kind: NoteKind,
 ) -> Result<(), AllocError>
     requires { number < length (known_in course.old.known) }
     ensures past { OnOk result (past_of course.new
-        ≡ with_note (put_note (place_at (known_in course.old.known) number) refusal)
+        ≡ with_note (note_at (place_at (known_in course.old.known) number) kind)
         (past_of course.old)) }
     ensures known { course.new.known ≡ course.old.known }
     ensures flying { course.new.tickets.items ≡ course.old.tickets.items }
 {
     let place = copy_job(alloc, &job_of(course, number).place)?;
-    course.notes.push(Note {
-        place,
-        kind: NoteKind::Put(refusal),
-    })?;
-    Ok(())
-}
-
-/// The record refused to note that the archive of the row of the job of a number is gone.
-pub(crate) fn note_refused_drop(
-    alloc: Global,
-    course: &mut Course<'_>,
-    number: usize,
-    refusal: RecordRefusal,
-) -> Result<(), AllocError>
-    requires { number < length (known_in course.old.known) }
-    ensures past { OnOk result (past_of course.new
-        ≡ with_note (drop_note (place_at (known_in course.old.known) number) refusal)
-        (past_of course.old)) }
-    ensures known { course.new.known ≡ course.old.known }
-    ensures flying { course.new.tickets.items ≡ course.old.tickets.items }
-{
-    let place = copy_job(alloc, &job_of(course, number).place)?;
-    course.notes.push(Note {
-        place,
-        kind: NoteKind::Drop(refusal),
-    })?;
-    Ok(())
-}
-
-/// The files of the job of a number could not be archived.
-pub(crate) fn note_unarchived(
-    alloc: Global,
-    course: &mut Course<'_>,
-    number: usize,
-    fault: HostFault,
-) -> Result<(), AllocError>
-    requires { number < length (known_in course.old.known) }
-    ensures past { OnOk result (past_of course.new
-        ≡ with_note (store_note (place_at (known_in course.old.known) number) fault)
-        (past_of course.old)) }
-    ensures known { course.new.known ≡ course.old.known }
-    ensures flying { course.new.tickets.items ≡ course.old.tickets.items }
-{
-    let place = copy_job(alloc, &job_of(course, number).place)?;
-    course.notes.push(Note {
-        place,
-        kind: NoteKind::Store(fault),
-    })?;
+    course.notes.push(Note { place, kind })?;
     Ok(())
 }
 

@@ -1,13 +1,13 @@
-//! The files of a job's row are fetched, where they are archived: they are the row's, or its archive is lost.
-ghost use Rattle.std.specs.Prelude.{◌≡◌, ◌↔◌, ◌<◌, ◌+◌, ◌^◌, true, IsTrue, IfOk, MatchOption, OnErr, length};
-ghost use Rattle.run_core.specs.inner.Course.{known_in as jobs_in, is_lost_in};
-ghost use Rattle.run_core.specs.inner.Fetches.{AgreesAt, Drops, Fetches, IsNextToFetch, NoneToFetch, can_load, loads_in};
+//! The files of a job's row are fetched, where they are archived: they are the row's, and its archive is used, or it is lost.
+ghost use Rattle.std.specs.Prelude.{◌≡◌, ◌↔◌, ◌<◌, ◌+◌, ◌^◌, true, IsTrue, IfOk, MatchOption, OnErr, OnOk, length};
+ghost use Rattle.run_core.specs.inner.Course.{known_in as jobs_in, is_lost_in, past_of, with_load, with_loss};
+ghost use Rattle.run_core.specs.inner.Fetches.{AgreesAt, Fetches, IsNextToFetch, NoneToFetch, can_load, drops, loads_in, touches};
 ghost use Rattle.run_core.specs.inner.Picks.{AfterFetch};
 
-use crate::choice::pick;
 use crate::course::{job_of, key_of_row, known_in, note_load, note_loss};
 use crate::planning::{is_loaded, marks_in};
 use crate::state::{Course, Given, Phase, Turn};
+use crate::turn::telling;
 use crate::{RecordRequest, Request};
 use cwl_value::copy_job;
 use job_reuse::files_agree;
@@ -87,24 +87,52 @@ pub(crate) fn fetching(
     }
 }
 
-/// The files that were there of those of the job's row, as they were.
+/// The files that were there of those of the job's row, as they were: its archive is used, or dropped.
 pub(crate) fn fetched(
     alloc: Global,
-    given: &Given<'_>,
     course: &mut Course<'_>,
     number: usize,
     found: &Items<Found>,
 ) -> Result<Turn, AllocError>
-    requires folders { course.old.folders + 2 < 2 ^ 64 }
+    requires folders { course.old.folders + 1 < 2 ^ 64 }
     requires number { number < length (jobs_in course.old.known) }
-    ensures is { IfOk result (λ turn. AfterFetch given.now course.old number found.now turn
-        course.new) }
+    ensures is { IfOk result (λ turn. AfterFetch course.old number found.now turn course.new) }
     ensures flying { OnErr result (course.new.tickets.items ≡ course.old.tickets.items) }
 {
-    if agrees(course, number, found.as_slice()) {
-        note_load(course, number)?;
-        return pick(alloc, given, course);
+    match agrees(course, number, found.as_slice()) {
+        true => loaded(alloc, course, number),
+        false => missed(alloc, course, number),
     }
+}
+
+/// The files of the job's row are there: its archive was used.
+fn loaded(alloc: Global, course: &mut Course<'_>, number: usize) -> Result<Turn, AllocError>
+    requires folders { course.old.folders + 1 < 2 ^ 64 }
+    requires number { number < length (jobs_in course.old.known) }
+    ensures is { IfOk result (λ turn. turn ≡ touches course.old number) }
+    ensures past { OnOk result (past_of course.new ≡ with_load number (past_of course.old)) }
+    ensures known { course.new.known ≡ course.old.known }
+    ensures flying { OnErr result (course.new.tickets.items ≡ course.old.tickets.items) }
+{
+    let turn = touching(alloc, course, number)?;
+    match note_load(course, number) {
+        Ok(()) => Ok(turn),
+        Err(error) => {
+            mem::drop(turn);
+            Err(error)
+        }
+    }
+}
+
+/// Others are there: its archive is lost, and dropped.
+fn missed(alloc: Global, course: &mut Course<'_>, number: usize) -> Result<Turn, AllocError>
+    requires folders { course.old.folders + 1 < 2 ^ 64 }
+    requires number { number < length (jobs_in course.old.known) }
+    ensures is { IfOk result (λ turn. turn ≡ drops course.old number) }
+    ensures past { OnOk result (past_of course.new ≡ with_loss number (past_of course.old)) }
+    ensures known { course.new.known ≡ course.old.known }
+    ensures flying { OnErr result (course.new.tickets.items ≡ course.old.tickets.items) }
+{
     let turn = dropping(alloc, course, number)?;
     match note_loss(alloc, course, number) {
         Ok(()) => Ok(turn),
@@ -125,20 +153,30 @@ fn agrees(course: &Course<'_>, number: usize, found: &[Found]) -> bool
     }
 }
 
+/// The archive of the job's row was used.
+fn touching(alloc: Global, course: &Course<'_>, number: usize) -> Result<Turn, AllocError>
+    requires { number < length (jobs_in course.now.known) }
+    ensures { IfOk result (λ turn. turn ≡ touches course.now number) }
+{
+    let command = RecordRequest::Touch(key_of_row(alloc, course, number)?);
+    telling(
+        alloc,
+        &job_of(course, number).place,
+        command,
+        Phase::Touching(number),
+    )
+}
+
 /// The archive of the job's row is dropped.
 fn dropping(alloc: Global, course: &Course<'_>, number: usize) -> Result<Turn, AllocError>
     requires { number < length (jobs_in course.now.known) }
-    ensures { IfOk result (Drops course.now number) }
+    ensures { IfOk result (λ turn. turn ≡ drops course.now number) }
 {
-    let key = key_of_row(alloc, course, number)?;
-    match copy_job(alloc, &job_of(course, number).place) {
-        Ok(place) => Ok(Turn {
-            asks: Request::Record(place, RecordRequest::DropArchive(key)),
-            phase: Phase::Dropping(number),
-        }),
-        Err(error) => {
-            mem::drop(key);
-            Err(error)
-        }
-    }
+    let command = RecordRequest::DropArchive(key_of_row(alloc, course, number)?);
+    telling(
+        alloc,
+        &job_of(course, number).place,
+        command,
+        Phase::Dropping(number),
+    )
 }

@@ -14,6 +14,7 @@ mod collects;
 mod counts;
 mod course;
 mod delivery;
+mod discarding;
 mod fetching;
 mod few;
 mod fields;

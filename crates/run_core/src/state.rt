@@ -112,8 +112,12 @@ pub(crate) enum Phase {
     Finding(usize),
     /// The files of the row of the job of this number.
     Fetching(usize),
-    /// Whether it is noted that the archive of the row of the job of this number is gone.
+    /// Whether it is noted that the archive of the row of the job of this number was used.
+    Touching(usize),
+    /// Whether it is noted that it is gone.
     Dropping(usize),
+    /// Whether an archive is discarded for the job of this number; those of these keys are then, the last first.
+    Discarding(usize, Items<Text>),
     /// The folders of the job of this number.
     Staging(usize),
     /// The open work on the job of this number.

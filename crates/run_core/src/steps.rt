@@ -19,6 +19,7 @@ use crate::course::{
     job_of, note_end, note_failure, note_giving_up, note_mismatch, note_staging, note_start,
     note_success,
 };
+use crate::discarding::discard_next;
 use crate::fetching::fetched;
 use crate::measuring::measured;
 use crate::planning::replan;
@@ -88,9 +89,7 @@ fn follows<'a>(
         (Phase::Measuring(measuring), HostAnswer::Measured(measure)) => {
             measured(alloc, given, course, measuring, measure)
         }
-        (Phase::Fetching(job), HostAnswer::Fetched(found)) => {
-            fetched(alloc, given, course, job, found)
-        }
+        (Phase::Fetching(job), HostAnswer::Fetched(found)) => { fetched(alloc, course, job, found) }
         (Phase::Staging(job), HostAnswer::Done) => staged(alloc, given, course, job, asks),
         (Phase::Working(job, work), answer) => works_on(alloc, given, course, job, work, answer),
         (Phase::Collecting, HostAnswer::Ended(ending)) => landed(alloc, given, course, ending),
@@ -99,6 +98,9 @@ fn follows<'a>(
             delivered(alloc, given, course, outputs)
         }
         (Phase::Storing(job, row), HostAnswer::Done) => archived(alloc, course, job, row),
+        (Phase::Discarding(job, left), HostAnswer::Done) => {
+            discard_next(alloc, given, course, job, left)
+        }
         _ => unreachable!(),
     }
 }

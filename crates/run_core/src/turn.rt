@@ -3,7 +3,7 @@ ghost use Rattle.std.specs.Prelude.{◌≡◌, IfOk};
 ghost use Rattle.proc_host.specs.declared.call.HostRequest.{HostRequest as Call};
 ghost use Rattle.run_core.specs.declared.state.JobNext.{JobNext as Next};
 ghost use Rattle.run_core.specs.inner.Course.{past_of};
-ghost use Rattle.run_core.specs.inner.Turn.{collects, ends, given_up, lost_after, permanent, puts, root_asks, stores, succeeds, waits, works};
+ghost use Rattle.run_core.specs.inner.Turn.{collects, discards, ends, given_up, lost_after, permanent, puts, root_asks, stores, succeeds, tells_record, waits, works};
 ghost use Rattle.run_rules.specs.declared.request.Request.{Request as Asks};
 
 use crate::state::{Course, JobNext, JobPhase, Phase, Turn};
@@ -98,6 +98,28 @@ pub(crate) fn working(
     }
 }
 
+/// The record is told this for a job.
+pub(crate) fn telling(
+    alloc: Global,
+    place: &JobPlace,
+    command: RecordRequest,
+    phase: Phase,
+) -> Result<Turn, AllocError>
+    ensures { IfOk result (λ turn. turn ≡ tells_record place.now command phase) }
+{
+    match copy_job(alloc, place) {
+        Ok(place) => Ok(Turn {
+            asks: Request::Record(place, command),
+            phase,
+        }),
+        Err(refused) => {
+            mem::drop(command);
+            mem::drop(phase);
+            Err(refused)
+        }
+    }
+}
+
 /// The row of a job is put.
 pub(crate) fn putting(
     alloc: Global,
@@ -107,13 +129,28 @@ pub(crate) fn putting(
 ) -> Result<Turn, AllocError>
     ensures { IfOk result (λ turn. turn ≡ puts place.now number row) }
 {
+    let command = RecordRequest::Put(row);
+    telling(alloc, place, command, Phase::Putting(number))
+}
+
+/// An archive is discarded for a job, and then those of these keys, the last first.
+pub(crate) fn discarding(
+    alloc: Global,
+    place: &JobPlace,
+    number: usize,
+    key: Text,
+    left: Items<Text>,
+) -> Result<Turn, AllocError>
+    ensures { IfOk result (λ turn. turn ≡ discards place.now number key left) }
+{
     match copy_job(alloc, place) {
         Ok(place) => Ok(Turn {
-            asks: Request::Record(place, RecordRequest::Put(row)),
-            phase: Phase::Putting(number),
+            asks: Request::Host(place, HostRequest::Discard(key)),
+            phase: Phase::Discarding(number, left),
         }),
         Err(refused) => {
-            mem::drop(row);
+            mem::drop(key);
+            mem::drop(left);
             Err(refused)
         }
     }

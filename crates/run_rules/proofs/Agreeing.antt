@@ -9,7 +9,7 @@ use Rattle.job_graph.specs.Unfold.{Resolved, Unfolded, is_at, outputs_at, unfold
 use Rattle.job_graph.specs.Words.{Fields, JobPlace, is_same_place}
 use Rattle.job_key.specs.Key.{key}
 use Rattle.run_rules.specs.Scene.{Scene}
-use Rattle.run_rules.specs.Events.{Event, file_measured, job_staged, job_started, child_exited, job_succeeded, job_failed, job_failed_for_now, result_delivered, host_failed, collect_failed, row_found, no_row, find_failed, put_failed, row_differs, job_repeated, measures, are_measured, resolved, resolves, job_at, store_failed, files_fetched, archive_differs, drop_failed, host_failed_late}
+use Rattle.run_rules.specs.Events.{Event, file_measured, job_staged, job_started, child_exited, job_succeeded, job_failed, job_failed_for_now, result_delivered, host_failed, collect_failed, row_found, no_row, find_failed, put_failed, row_differs, job_repeated, measures, are_measured, resolved, resolves, job_at, store_failed, files_fetched, archive_differs, drop_failed, touch_failed, discard_failed, host_failed_late}
 use Rattle.run_rules.specs.Honest.{AgreesAt, AgreesFrom}
 use Rattle.run_rules.proofs.Measuring.{FitsAt, Fits, resolved_more, resolved_one}
 use Rattle.run_rules.proofs.Places.{same_place}
@@ -90,6 +90,8 @@ module _ (s : Scene) (world : World) where
   given_one es (files_fetched at number) fits agrees given = quietly es (files_fetched at number) fits refl given
   given_one es (archive_differs at its_key number) fits agrees given = quietly es (archive_differs at its_key number) fits refl given
   given_one es (drop_failed at refusal) fits agrees given = quietly es (drop_failed at refusal) fits refl given
+  given_one es (touch_failed at refusal) fits agrees given = quietly es (touch_failed at refusal) fits refl given
+  given_one es (discard_failed at) fits agrees given = quietly es (discard_failed at) fits refl given
 
   pub given_first : AreGiven []
   given_first place outputs is = absurd cc

@@ -18,15 +18,15 @@ use Rattle.plan_checker.specs.declared.plan.Mark.{Mark}
 use Rattle.run_rules.specs.CollectsOn.{CollectsOn, reads_on as collects_reading, collects, collects_none}
 use Rattle.run_rules.specs.End.{End, beyond_limits, ended_by_host, ended_by_record, fails_permanently, fails_temporarily, fault_end, gives_up, is_lost_collect, mismatches, settled, settled_by, settled_from, unfold_end}
 use Rattle.run_rules.specs.EndsSo.{EndsSo, lost, fails, succeeds}
-use Rattle.run_rules.specs.Events.{Event, file_measured, job_staged, job_started, child_exited, job_succeeded, job_failed, job_failed_for_now, result_delivered, host_failed, collect_failed, row_found, no_row, find_failed, put_failed, row_differs, job_repeated, store_failed, files_fetched, archive_differs, drop_failed, host_failed_late, Progress, Started, Work, flight_after, in_flight, row_at, tickets, unfolding_at}
+use Rattle.run_rules.specs.Events.{Event, file_measured, job_staged, job_started, child_exited, job_succeeded, job_failed, job_failed_for_now, result_delivered, host_failed, collect_failed, row_found, no_row, find_failed, put_failed, row_differs, job_repeated, store_failed, files_fetched, archive_differs, drop_failed, touch_failed, discard_failed, host_failed_late, Progress, Started, Work, flight_after, in_flight, row_at, tickets, unfolding_at}
 use Rattle.run_rules.specs.Keeps.{Keeps, keeps, keeps_none, differs, told_of}
-use Rattle.run_rules.specs.OfAnswers.{CallFailed, PutRefused, DropRefused, FindRefused, HostFailed, WasStarted, was_refused, was_unsound, EndIsOf, NoteIsOf}
+use Rattle.run_rules.specs.OfAnswers.{CallFailed, PutRefused, DropRefused, TouchRefused, FindRefused, HostFailed, WasStarted, was_refused, was_unsound, EndIsOf, NoteIsOf}
 use Rattle.run_rules.specs.Plans.{PlansSoFar}
 use Rattle.run_rules.specs.Reports.{note_of, notes_of}
 use Rattle.run_rules.specs.Run.{Goes, begins, asks}
 use Rattle.run_rules.specs.Scene.{Scene}
 use Rattle.run_rules.specs.StartsOn.{StartsOn, reads_on as starts_reading, has_launch, has_no_launch, has_no_contents}
-use Rattle.run_rules.specs.Steps.{Steps, measures_file, stages, reads_input, starts, exits_well, exits_for_now, exits_badly, scans, reads_output, delivers, loses_collect, call_fails, finds_none, finds, finds_wrong, find_fails, puts, put_fails, stores, store_fails, fetches, fetches_other, drops, drop_fails, call_fails_late}
+use Rattle.run_rules.specs.Steps.{Steps, measures_file, stages, reads_input, starts, exits_well, exits_for_now, exits_badly, scans, reads_output, delivers, loses_collect, call_fails, finds_none, finds, finds_wrong, find_fails, puts, put_fails, stores, store_fails, fetches, fetches_other, drops, drop_fails, touches, touch_fails, discards, discard_fails, call_fails_late}
 use Rattle.run_rules.specs.declared.outcome.Cause.{Cause}
 use Rattle.run_rules.specs.declared.outcome.Note.{Note}
 use Rattle.run_rules.specs.declared.outcome.NoteKind.{NoteKind}
@@ -103,6 +103,8 @@ abbrev EventIsOf : Scene → List Pair → List Event → Event → Type 0
 EventIsOf s t es (find_failed place refusal) = FindRefused s t es refusal
 EventIsOf s t es (put_failed place refusal) = PutRefused t place refusal
 EventIsOf s t es (drop_failed place refusal) = DropRefused t place refusal
+EventIsOf s t es (touch_failed place refusal) = TouchRefused t place refusal
+EventIsOf s t es (discard_failed place) = CallFailed t place HostFault.Discard
 EventIsOf s t es (store_failed place) = CallFailed t place HostFault.Store
 EventIsOf s t es (host_failed place fault) = CallFailed t place fault
 EventIsOf s t es (host_failed_late place fault) = CallFailed t place fault
@@ -136,6 +138,8 @@ AreOf s t es new = (e : Event) → Contains new e → EventIsOf s t es e
 kind_of : (s : Scene) (t : List Pair) (es : List Event) (e : Event) (note : Note) → note_of e ≡ Some note → EventIsOf s t es e → NoteIsOf t note
 kind_of s t es (put_failed place refusal) note is its = let same : record { place = place; kind = NoteKind.Put refusal } ≡ note = cc in subst (NoteIsOf t) same its
 kind_of s t es (drop_failed place refusal) note is its = let same : record { place = place; kind = NoteKind.Drop refusal } ≡ note = cc in subst (NoteIsOf t) same its
+kind_of s t es (touch_failed place refusal) note is its = let same : record { place = place; kind = NoteKind.Touch refusal } ≡ note = cc in subst (NoteIsOf t) same its
+kind_of s t es (discard_failed place) note is its = let same : record { place = place; kind = NoteKind.Discard HostFault.Discard } ≡ note = cc in subst (NoteIsOf t) same its
 kind_of s t es (store_failed place) note is its = let same : record { place = place; kind = NoteKind.Store HostFault.Store } ≡ note = cc in subst (NoteIsOf t) same its
 kind_of s t es (host_failed_late place fault) note is its = let same : record { place = place; kind = NoteKind.Late fault } ≡ note = cc in subst (NoteIsOf t) same its
 kind_of s t es _ note is its = absurd cc
@@ -173,6 +177,8 @@ module _ (s : Scene) where
     of_still (find_failed place refusal) its = find_still refusal its
     of_still (put_failed place refusal) its = record { row = its.row; there = still _ its.there }
     of_still (drop_failed place refusal) its = record { key = its.key; there = still _ its.there }
+    of_still (touch_failed place refusal) its = record { key = its.key; there = still _ its.there }
+    of_still (discard_failed place) its = call_still place HostFault.Discard its
     of_still (store_failed place) its = call_still place HostFault.Store its
     of_still (host_failed place fault) its = call_still place fault its
     of_still (host_failed_late place fault) its = call_still place fault its
@@ -235,12 +241,16 @@ module _ (s : Scene) where
   step_of t f _ _ _ there (finds_wrong place its_key row job known unsound) =
       one_of _ _ _ (was_unsound place its_key row job f.events (find_failed place NotARecord ∷ []) refl there refl known unsound)
   step_of t f _ _ _ there (find_fails place its_key refusal) = one_of _ _ _ (was_refused place its_key there)
-  step_of t f _ _ _ there (puts place row) = none_of _ _
+  step_of t f _ _ _ there (puts place row gone) = none_of _ _
   step_of t f _ _ _ there (put_fails place row refusal) = one_of _ _ _ (record { row = row; there = there })
   step_of t f _ _ _ there (fetches place its_key number files found row its same) = one_of _ _ _ tt
   step_of t f _ _ _ there (fetches_other place its_key number files found row its other) = one_of _ _ _ tt
   step_of t f _ _ _ there (drops place its_key) = none_of _ _
   step_of t f _ _ _ there (drop_fails place its_key refusal) = one_of _ _ _ (record { key = its_key; there = there })
+  step_of t f _ _ _ there (touches place its_key) = none_of _ _
+  step_of t f _ _ _ there (touch_fails place its_key refusal) = one_of _ _ _ (record { key = its_key; there = there })
+  step_of t f _ _ _ there (discards place its_key more due) = none_of _ _
+  step_of t f _ _ _ there (discard_fails place its_key more due) = one_of _ _ _ (record { request = HostRequest.Discard its_key; there = there; own = refl })
   step_of t f _ _ _ there (delivers place plan) = one_of _ _ _ tt
   step_of t f _ _ _ there loses_collect = one_of _ _ _ (record { request = HostRequest.Collect; there = there; own = refl })
   step_of t f _ _ _ there (call_fails place request other unsettled) = one_of _ _ _ (record { request = request; there = there; own = refl })

@@ -22,7 +22,8 @@ use Rattle.run_rules.specs.Plans.{PlansSoFar}
 use Rattle.run_rules.specs.Run.{Goes, begins, asks}
 use Rattle.run_rules.specs.Scene.{Scene}
 use Rattle.run_rules.specs.StartsOn.{StartsOn, reads_on as starts_reading, has_launch, has_no_launch, has_no_contents}
-use Rattle.run_rules.specs.Steps.{Steps, measures_file, stages, reads_input, starts, exits_well, exits_for_now, exits_badly, scans, reads_output, delivers, loses_collect, call_fails, finds_none, finds, finds_wrong, find_fails, puts, put_fails, stores, store_fails, fetches, fetches_other, drops, drop_fails, call_fails_late}
+use Rattle.run_rules.specs.Steps.{Steps, measures_file, stages, reads_input, starts, exits_well, exits_for_now, exits_badly, scans, reads_output, delivers, loses_collect, call_fails, finds_none, finds, finds_wrong, find_fails, puts, put_fails, stores, store_fails, fetches, fetches_other, drops, drop_fails, touches, touch_fails, discards, discard_fails, call_fails_late, work_to_discard}
+use Rattle.run_rules.proofs.Discarding.{by_discards}
 use Rattle.run_rules.proofs.Elsewhere.{Elsewhere, WorkElsewhere, plan_elsewhere, starts_elsewhere}
 
 -- the inputs that an event tells of
@@ -60,6 +61,9 @@ kept_elsewhere : (keep : Bool) (place : JobPlace) (row : Row) → WorkElsewhere 
 kept_elsewhere true place row = tt
 kept_elsewhere false place row = tt
 
+discards_elsewhere : (place : JobPlace) (keys : List (List ℕ)) → WorkElsewhere (work_to_discard place keys)
+discards_elsewhere place keys = by_discards WorkElsewhere place keys tt (λ key more. tt)
+
 keeps_elsewhere : {keep : Bool} {place : JobPlace} {job : Job} {row : Option Row} {millis : ℕ} {found : List Found} {outputs : Fields} {work : Work} {more : List Event} →
     Keeps keep place job row millis found outputs work more → AreElsewhere work more
 keeps_elsewhere (keeps_none once) = one_more _ _ tt tt
@@ -93,8 +97,12 @@ module _ (s : Scene) where
   step_elsewhere marks (delivers place plan) may was = one_more _ _ tt tt
   step_elsewhere marks (fetches place its_key number files found row its same) may was = one_more _ _ tt tt
   step_elsewhere marks (fetches_other place its_key number files found row its other) may was = one_more _ _ tt tt
+  step_elsewhere marks (touches place its_key) may was = record { due = tt; started = tt }
+  step_elsewhere marks (touch_fails place its_key refusal) may was = one_more _ _ tt tt
   step_elsewhere marks (drops place its_key) may was = record { due = tt; started = tt }
   step_elsewhere marks (drop_fails place its_key refusal) may was = one_more _ _ tt tt
+  step_elsewhere marks (discards place its_key more due) may was = record { due = discards_elsewhere place more; started = tt }
+  step_elsewhere marks (discard_fails place its_key more due) may was = one_more _ _ (discards_elsewhere place more) tt
   step_elsewhere marks loses_collect may was = one_more _ _ tt tt
   step_elsewhere marks (call_fails place request other unsettled) may was = one_more _ _ tt tt
   step_elsewhere marks (call_fails_late place request end other over) may was = one_more _ _ tt tt
@@ -102,7 +110,7 @@ module _ (s : Scene) where
   step_elsewhere marks (finds place its_key row job known sound) may was = one_more _ _ tt tt
   step_elsewhere marks (finds_wrong place its_key row job known unsound) may was = one_more _ _ tt tt
   step_elsewhere marks (find_fails place its_key refusal) may was = one_more _ _ tt tt
-  step_elsewhere marks (puts place row) may was = record { due = tt; started = tt }
+  step_elsewhere marks (puts place row gone) may was = record { due = discards_elsewhere place gone; started = tt }
   step_elsewhere marks (put_fails place row refusal) may was = one_more _ _ tt tt
   step_elsewhere marks (stores place key folder files row due) may was = record { due = tt; started = tt }
   step_elsewhere marks (store_fails place key folder files row due) may was = one_more _ _ tt tt

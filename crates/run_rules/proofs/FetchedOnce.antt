@@ -27,7 +27,7 @@ use Rattle.run_rules.specs.HowOften.{is_fetch_of, times}
 use Rattle.run_rules.specs.Plans.{InForce, PlansSoFar}
 use Rattle.run_rules.specs.Run.{Goes, asks, begins}
 use Rattle.run_rules.specs.Scene.{Scene}
-use Rattle.run_rules.specs.Steps.{Steps, command, measures_file, stages, reads_input, starts, exits_well, exits_for_now, exits_badly, scans, reads_output, finds_none, finds, finds_wrong, find_fails, puts, put_fails, fetches, fetches_other, drops, drop_fails, delivers, loses_collect, call_fails, call_fails_late, stores, store_fails}
+use Rattle.run_rules.specs.Steps.{Steps, command, measures_file, stages, reads_input, starts, exits_well, exits_for_now, exits_badly, scans, reads_output, finds_none, finds, finds_wrong, find_fails, puts, put_fails, fetches, fetches_other, drops, drop_fails, touches, touch_fails, discards, discard_fails, delivers, loses_collect, call_fails, call_fails_late, stores, store_fails}
 use Rattle.run_rules.proofs.Apart.{apart_at}
 use Rattle.run_rules.proofs.Brought.{PassesEnds, collects_pass, starts_pass}
 use Rattle.run_rules.proofs.Places.{same_place}
@@ -121,12 +121,16 @@ module _ (s : Scene) where
   aside f (finds place its_key row job known sound) = inr (tells_row place its_key row)
   aside f (finds_wrong place its_key row job known unsound) = inl refl
   aside f (find_fails place its_key refusal) = inl refl
-  aside f (puts place row) = inl refl
+  aside f (puts place row keys) = inl refl
   aside f (put_fails place row refusal) = inl refl
   aside f (fetches place its_key number files found row its same) = inl refl
   aside f (fetches_other place its_key number files found row its other) = inl refl
   aside f (drops place its_key) = inl refl
   aside f (drop_fails place its_key refusal) = inl refl
+  aside f (touches place its_key) = inl refl
+  aside f (touch_fails place its_key refusal) = inl refl
+  aside f (discards place its_key more due) = inl refl
+  aside f (discard_fails place its_key more due) = inl refl
   aside f (delivers place plan) = inl refl
   aside f loses_collect = inl refl
   aside f (call_fails place request other unsettled) = inl refl
@@ -212,10 +216,14 @@ module _ (s : Scene) where
     spent_then (finds q its_key row job known sound) is = absurd cc
     spent_then (finds_wrong q its_key row job known unsound) is = absurd cc
     spent_then (find_fails q its_key refusal) is = absurd cc
-    spent_then (puts q row) is = absurd cc
+    spent_then (puts q row keys) is = absurd cc
     spent_then (put_fails q row refusal) is = absurd cc
     spent_then (drops q its_key) is = absurd cc
     spent_then (drop_fails q its_key refusal) is = absurd cc
+    spent_then (touches q its_key) is = absurd cc
+    spent_then (touch_fails q its_key refusal) is = absurd cc
+    spent_then (discards q its_key more due) is = absurd cc
+    spent_then (discard_fails q its_key more due) is = absurd cc
     spent_then (delivers q plan) is = absurd cc
     spent_then loses_collect is = absurd cc
     spent_then (stores q key folder files row due) is = absurd cc

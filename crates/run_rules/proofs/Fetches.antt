@@ -1,4 +1,5 @@
--- Two jobs, one of which has an archived row: when its files are fetched, where they are, and what comes of an archive that is another.
+-- Two jobs, one of which has an archived row: when its files are fetched, where they are, and what comes of an archive that is another, or that is taken
+-- away.
 use Rattle.std.proofs.Common.{◌≡◌, ℕ, Bool, true, List, [], ◌∷◌, ◌++◌, Option, Some, None, length, refl, lit<}
 use Rattle.std.specs.Fmt.{digits}
 use Rattle.std.specs.Prelude.{codes, false, filter}
@@ -9,6 +10,7 @@ use Rattle.plan_checker.specs.declared.plan.Mark.{Mark}
 use Rattle.plan_checker.specs.declared.vertex.Vertex.{Vertex}
 use Rattle.plan_checker.specs.declared.plan.Mark.TheVariants.{Compute, Load}
 use Rattle.proc_host.specs.declared.call.HostAnswer.{HostAnswer}
+use Rattle.proc_host.specs.declared.call.HostFault.{HostFault}
 use Rattle.proc_host.specs.declared.call.HostRequest.{HostRequest}
 use Rattle.staging.specs.declared.found.Found.{Found}
 use Rattle.run_rules.specs.declared.outcome.NoteKind.{NoteKind}
@@ -20,10 +22,10 @@ use Rattle.run_rules.specs.declared.setting.Options.{Options}
 use Rattle.run_rules.specs.Allowed.{MayFetch, due}
 use Rattle.run_rules.specs.Costs.{graph_at}
 use Rattle.run_rules.specs.End.{settled}
-use Rattle.run_rules.specs.Events.{Event, archive_differs, can_load, drop_due, drop_failed, files_fetched, folder_at, is_at_hand, is_numbered, job_staged, no_row, Progress, resolved, row_found}
+use Rattle.run_rules.specs.Events.{Event, archive_differs, can_load, drop_due, touch_due, discard_due, drop_failed, touch_failed, discard_failed, files_fetched, folder_at, is_at_hand, is_numbered, job_staged, no_row, Progress, put_due, resolved, row_found}
 use Rattle.run_rules.specs.Reports.{notes_of}
 use Rattle.run_rules.specs.Scene.{Scene}
-use Rattle.run_rules.specs.Steps.{call, command, drop_fails, drops, fetches, fetches_other}
+use Rattle.run_rules.specs.Steps.{call, command, discard_fails, discards, drop_fails, drops, fetches, fetches_other, puts, touch_fails, touches}
 use Rattle.run_rules.proofs.Leads.{Leads, follows, stays}
 use Rattle.run_rules.proofs.TranscriptTells.{none_in}
 use Rattle.run_rules.proofs.TwoJobs.{a, at, b, job, options, s, two}
@@ -104,8 +106,31 @@ fetch_of there = call a (HostRequest.Fetch k 1 left) (HostAnswer.Fetched there)
 abbrev fetched : List Event
 fetched = found ++ files_fetched a 1 ∷ []
 
-they_are_there : Leads kept (at found) (fetch_of left ∷ []) (at fetched)
+-- that the archive was used is told next
+abbrev to_be_touched : Progress
+to_be_touched = record { work = touch_due a k; events = fetched }
+
+they_are_there : Leads kept (at found) (fetch_of left ∷ []) to_be_touched
 they_are_there = follows (fetches a k 1 left left archived_row refl (λ f. (λ there. there, λ there. there))) stays
+
+the_touch_is_asked : due kept to_be_touched ≡ Some (Request.Record a (RecordRequest.Touch k))
+the_touch_is_asked = refl
+
+it_is_touched : Leads kept to_be_touched (command a (RecordRequest.Touch k) RecordAnswer.Done ∷ []) (at fetched)
+it_is_touched = follows (touches a k) stays
+
+-- one that the record refuses is noted, and settles nothing
+abbrev untouched : List Event
+untouched = fetched ++ touch_failed a Store ∷ []
+
+it_is_not_touched : Leads kept to_be_touched (command a (RecordRequest.Touch k) (RecordAnswer.Refused Store) ∷ []) (at untouched)
+it_is_not_touched = follows (touch_fails a k Store) stays
+
+that_is_noted : notes_of untouched ≡ record { place = a; kind = NoteKind.Touch Store } ∷ []
+that_is_noted = refl
+
+that_settles_nothing : settled kept untouched ≡ None
+that_settles_nothing = refl
 
 -- Its outputs are known from its row on, and at hand once its files are fetched
 
@@ -173,16 +198,22 @@ one_of_another_key = refl
 its_number_is_gone : length (filter is_numbered other) ≡ 1
 its_number_is_gone = refl
 
--- The record drops it, or refuses to: that is a note, and settles nothing
+-- The record drops it, or refuses to: that is a note, and settles nothing. It is discarded next in both cases
 
-it_is_dropped : Leads kept to_be_dropped (command a (RecordRequest.DropArchive k) RecordAnswer.Done ∷ []) (at other)
-it_is_dropped = follows (drops a k) stays
+abbrev discarded : Pair
+discarded = call a (HostRequest.Discard k) HostAnswer.Done
+
+the_discard_is_asked : due kept (record { work = discard_due a k []; events = other }) ≡ Some (Request.Host a (HostRequest.Discard k))
+the_discard_is_asked = refl
+
+it_is_dropped : Leads kept to_be_dropped (command a (RecordRequest.DropArchive k) RecordAnswer.Done ∷ discarded ∷ []) (at other)
+it_is_dropped = follows (drops a k) (follows (discards a k [] refl) stays)
 
 abbrev refused : List Event
 refused = other ++ drop_failed a Store ∷ []
 
-it_is_refused : Leads kept to_be_dropped (command a (RecordRequest.DropArchive k) (RecordAnswer.Refused Store) ∷ []) (at refused)
-it_is_refused = follows (drop_fails a k Store) stays
+it_is_refused : Leads kept to_be_dropped (command a (RecordRequest.DropArchive k) (RecordAnswer.Refused Store) ∷ discarded ∷ []) (at refused)
+it_is_refused = follows (drop_fails a k Store) (follows (discards a k [] refl) stays)
 
 it_is_noted : notes_of refused ≡ record { place = a; kind = NoteKind.Drop Store } ∷ []
 it_is_noted = refl
@@ -192,3 +223,28 @@ it_settles_nothing = refl
 
 and_the_job_can_not_be_loaded : graph_at kept refused ≡ job_vertex None false ∷ job_vertex None true ∷ []
 and_the_job_can_not_be_loaded = refl
+
+-- A put that takes two archives away: they are discarded one after the other, also where the first could not be, which is a note
+
+abbrev k2 : List ℕ
+k2 = codes "l"
+
+abbrev put_away : Pair
+put_away = command b (RecordRequest.Put archived_row) (RecordAnswer.Put (k2 ∷ k ∷ []))
+
+both_are_discarded : Leads kept (record { work = put_due b archived_row; events = found })
+    (put_away ∷ call b (HostRequest.Discard k2) HostAnswer.Done ∷ call b (HostRequest.Discard k) HostAnswer.Done ∷ []) (at found)
+both_are_discarded = follows (puts b archived_row (k2 ∷ k ∷ [])) (follows (discards b k2 (k ∷ []) refl) (follows (discards b k [] refl) stays))
+
+abbrev undiscarded : List Event
+undiscarded = found ++ discard_failed b ∷ []
+
+so_is_the_second : Leads kept (record { work = put_due b archived_row; events = found })
+    (put_away ∷ call b (HostRequest.Discard k2) (HostAnswer.Failed HostFault.Discard) ∷ call b (HostRequest.Discard k) HostAnswer.Done ∷ []) (at undiscarded)
+so_is_the_second = follows (puts b archived_row (k2 ∷ k ∷ [])) (follows (discard_fails b k2 (k ∷ []) refl) (follows (discards b k [] refl) stays))
+
+the_first_is_noted : notes_of undiscarded ≡ record { place = b; kind = NoteKind.Discard HostFault.Discard } ∷ []
+the_first_is_noted = refl
+
+it_changes_no_end : settled kept undiscarded ≡ None
+it_changes_no_end = refl

@@ -25,7 +25,7 @@ use Rattle.run_rules.specs.Plans.{PlansSoFar}
 use Rattle.run_rules.specs.Reports.{entries_of, entry_of}
 use Rattle.run_rules.specs.Run.{Goes, asks, begins}
 use Rattle.run_rules.specs.Scene.{Scene}
-use Rattle.run_rules.specs.Steps.{Steps, call, command, measures_file, stages, reads_input, starts, exits_well, exits_for_now, exits_badly, scans, reads_output, finds_none, finds, finds_wrong, find_fails, puts, put_fails, fetches, fetches_other, drops, drop_fails, delivers, loses_collect, call_fails, call_fails_late, stores, store_fails}
+use Rattle.run_rules.specs.Steps.{Steps, call, command, measures_file, stages, reads_input, starts, exits_well, exits_for_now, exits_badly, scans, reads_output, finds_none, finds, finds_wrong, find_fails, puts, put_fails, fetches, fetches_other, drops, drop_fails, touches, touch_fails, discards, discard_fails, delivers, loses_collect, call_fails, call_fails_late, stores, store_fails}
 use Rattle.run_rules.proofs.Brought.{PassesEnds, collects_pass, starts_pass}
 use Rattle.run_rules.proofs.Rising.{flown, front_rises, none_started}
 use Rattle.run_rules.proofs.events.Flights.{Flight, is_flying, landed, landed_is_one_less, others_fly_on, tickets_landed, tickets_more}
@@ -81,7 +81,7 @@ module _ (s : Scene) where
   flies f (finds place its_key row job known sound) = by_record place (RecordRequest.Find its_key) (RecordAnswer.Found (Some row)) _ refl
   flies f (finds_wrong place its_key row job known unsound) = by_record place (RecordRequest.Find its_key) (RecordAnswer.Found (Some row)) _ refl
   flies f (find_fails place its_key refusal) = by_record place (RecordRequest.Find its_key) (RecordAnswer.Refused refusal) _ refl
-  flies f (puts place row) = by_record place (RecordRequest.Put row) RecordAnswer.Done _ refl
+  flies f (puts place row gone) = by_record place (RecordRequest.Put row) (RecordAnswer.Put gone) _ refl
   flies f (put_fails place row refusal) = by_record place (RecordRequest.Put row) (RecordAnswer.Refused refusal) _ refl
   flies f (fetches place its_key number files found row its same) =
       by_host place (HostRequest.Fetch its_key number files) (HostAnswer.Fetched found) _ refl (λ numbers. refl)
@@ -89,6 +89,10 @@ module _ (s : Scene) where
       by_host place (HostRequest.Fetch its_key number files) (HostAnswer.Fetched found) _ refl (λ numbers. refl)
   flies f (drops place its_key) = by_record place (RecordRequest.DropArchive its_key) RecordAnswer.Done _ refl
   flies f (drop_fails place its_key refusal) = by_record place (RecordRequest.DropArchive its_key) (RecordAnswer.Refused refusal) _ refl
+  flies f (touches place its_key) = by_record place (RecordRequest.Touch its_key) RecordAnswer.Done _ refl
+  flies f (touch_fails place its_key refusal) = by_record place (RecordRequest.Touch its_key) (RecordAnswer.Refused refusal) _ refl
+  flies f (discards place its_key more due) = by_host place (HostRequest.Discard its_key) HostAnswer.Done _ refl (λ numbers. refl)
+  flies f (discard_fails place its_key more due) = by_host place (HostRequest.Discard its_key) (HostAnswer.Failed _) _ refl (λ numbers. refl)
   flies f (delivers place plan) = by_host place (HostRequest.Deliver plan) HostAnswer.Done _ refl (λ numbers. refl)
   flies f loses_collect = by_host [] HostRequest.Collect (HostAnswer.Failed _) _ refl (λ numbers. refl)
   flies f (call_fails place request other unsettled) = by_host place request (HostAnswer.Failed _) _ refl (λ numbers. refl)

@@ -21,18 +21,19 @@ use Rattle.staging.specs.declared.found.Found.{Found}
 use Rattle.run_rules.specs.Allowed.{Allowed, due_in}
 use Rattle.run_rules.specs.Answers.{AreAnswers, MayAnswer, by_host}
 use Rattle.run_rules.specs.CollectsOn.{CollectsOn, left_of, reads_on as collects_reading, collects, collects_none}
-use Rattle.run_rules.specs.Events.{Event, Progress, Started, Work, nothing_due, input_heads_due, start_due, scan_due, output_heads_due, put_due, store_due, drop_due, started_at}
+use Rattle.run_rules.specs.Events.{Event, Progress, Started, Work, nothing_due, input_heads_due, start_due, scan_due, output_heads_due, put_due, store_due, drop_due, touch_due, discard_due, started_at}
 use Rattle.run_rules.specs.Keeps.{Keeps, keeps, keeps_none, differs, work_to_keep}
 use Rattle.run_rules.specs.Plans.{PlansSoFar}
 use Rattle.run_rules.specs.Run.{Goes, begins, asks}
 use Rattle.run_rules.specs.Scene.{Scene}
 use Rattle.run_rules.specs.StartsOn.{StartsOn, reads_on as starts_reading, has_launch, has_no_launch, has_no_contents}
-use Rattle.run_rules.specs.Steps.{Steps, stages, reads_input, scans, reads_output, stores, store_fails}
+use Rattle.run_rules.specs.Steps.{Steps, stages, reads_input, scans, reads_output, puts, stores, store_fails, discards, discard_fails}
 use Rattle.run_rules.specs.declared.request.Answer.{Answer}
 use Rattle.run_rules.specs.declared.request.Pair.{Pair}
 use Rattle.run_rules.specs.declared.request.RecordRequest.{RecordRequest}
 use Rattle.run_rules.specs.declared.request.Request.{Request}
 use Rattle.run_rules.specs.declared.setting.Options.{Options}
+use Rattle.run_rules.proofs.Discarding.{by_discards}
 use Rattle.run_rules.proofs.Elsewhere.{Elsewhere}
 use Rattle.run_rules.proofs.ElsewhereStarted.{started_elsewhere}
 use Rattle.run_rules.proofs.TranscriptTells.{none_in}
@@ -94,6 +95,8 @@ is_put_due s es (output_heads_due p millis found [] read) place row is stands = 
 is_put_due s es (output_heads_due p millis found (name ∷ todo) read) place row is stands = absurd cc
 is_put_due s es (put_due p its) place row is stands = let same : its ≡ row = cc in subst (λ (r : Row). AreCollected r.outputs) same stands
 is_put_due s es (drop_due p key) place row is stands = absurd cc
+is_put_due s es (touch_due p key) place row is stands = absurd cc
+is_put_due s es (discard_due p key more) place row is stands = absurd cc
 is_put_due s es (store_due p its) place row is stands = absurd cc
 
 -- ---- one step
@@ -114,6 +117,9 @@ module _ (s : Scene) where
       collects_stand (begun place started was) (subst Stands is stands) on
   step f _ _ _ begun flying may stands (stores place key folder files row is) = subst Stands is stands
   step f _ _ _ begun flying may stands (store_fails place key folder files row is) = subst Stands is stands
+  step f _ _ _ begun flying may stands (puts place row gone) = by_discards Stands place gone tt (λ key more. tt)
+  step f _ _ _ begun flying may stands (discards place its_key more is) = by_discards Stands place more tt (λ key more. tt)
+  step f _ _ _ begun flying may stands (discard_fails place its_key more is) = by_discards Stands place more tt (λ key more. tt)
   step f _ _ _ begun flying may stands _ = tt
 
   -- ---- a run so far

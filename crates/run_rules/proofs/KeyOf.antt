@@ -17,14 +17,15 @@ use Rattle.staging.specs.declared.found.Found.{Found}
 use Rattle.run_rules.specs.Allowed.{Allowed, due, due_in}
 use Rattle.run_rules.specs.Answers.{AreAnswers, CanTell, MayAnswer, by_host, by_record, is_found}
 use Rattle.run_rules.specs.CollectsOn.{CollectsOn, reads_on as collects_reading, collects, collects_none}
-use Rattle.run_rules.specs.Events.{Event, Progress, Started, Work, drop_due, folder_at, input_heads_due, job_at, job_staged, nothing_due, output_heads_due, put_due, row_at, row_found, row_if, scan_due, start_due, store_due, is_reusable}
+use Rattle.run_rules.specs.Events.{Event, Progress, Started, Work, drop_due, touch_due, discard_due, folder_at, input_heads_due, job_at, job_staged, nothing_due, output_heads_due, put_due, row_at, row_found, row_if, scan_due, start_due, store_due, is_reusable}
 use Rattle.run_rules.specs.Keeps.{Keeps, differs, keeps, keeps_none, work_to_keep}
 use Rattle.run_rules.specs.Plans.{PlansSoFar}
 use Rattle.run_rules.specs.Recorded.{key_of}
 use Rattle.run_rules.specs.Run.{Goes, asks, begins}
 use Rattle.run_rules.specs.Scene.{Scene}
 use Rattle.run_rules.specs.StartsOn.{StartsOn, reads_on as starts_reading, has_launch, has_no_launch, has_no_contents}
-use Rattle.run_rules.specs.Steps.{Steps, command, measures_file, stages, reads_input, starts, exits_well, exits_for_now, exits_badly, scans, reads_output, delivers, loses_collect, call_fails, finds_none, finds, finds_wrong, find_fails, puts, put_fails, stores, store_fails, fetches, fetches_other, drops, drop_fails, call_fails_late}
+use Rattle.run_rules.specs.Steps.{Steps, command, measures_file, stages, reads_input, starts, exits_well, exits_for_now, exits_badly, scans, reads_output, delivers, loses_collect, call_fails, finds_none, finds, finds_wrong, find_fails, puts, put_fails, stores, store_fails, fetches, fetches_other, drops, drop_fails, touches, touch_fails, discards, discard_fails, call_fails_late, work_to_discard}
+use Rattle.run_rules.proofs.Discarding.{by_discards}
 use Rattle.run_rules.specs.UnderKey.{IsKeyOf, IsUnderKey}
 use Rattle.run_rules.specs.declared.request.Answer.{Answer}
 use Rattle.run_rules.specs.declared.request.Pair.{Pair}
@@ -60,6 +61,7 @@ module _ (s : Scene) where
   abbrev IsWorkUnderKey : List Event → Work → Type 0
   IsWorkUnderKey es (put_due place row) = IsKeyOf s es place row.key
   IsWorkUnderKey es (store_due place row) = IsKeyOf s es place row.key
+  IsWorkUnderKey es (touch_due place its_key) = IsKeyOf s es place its_key
   IsWorkUnderKey es (drop_due place its_key) = IsKeyOf s es place its_key
   IsWorkUnderKey es _ = Unit {0}
 
@@ -77,6 +79,10 @@ module _ (s : Scene) where
       let same : Request.Host place (HostRequest.Head (path_in (folder_at s es place) name) (limit_of name)) ≡ request = cc in subst (IsUnderKey s es) same tt
   due_under es (put_due place row) request its is =
       let same : Request.Record place (RecordRequest.Put row) ≡ request = cc in subst (IsUnderKey s es) same its
+  due_under es (touch_due place its_key) request its is =
+      let same : Request.Record place (RecordRequest.Touch its_key) ≡ request = cc in subst (IsUnderKey s es) same its
+  due_under es (discard_due place its_key more) request its is =
+      let same : Request.Host place (HostRequest.Discard its_key) ≡ request = cc in subst (IsUnderKey s es) same tt
   due_under es (drop_due place its_key) request its is =
       let same : Request.Record place (RecordRequest.DropArchive its_key) ≡ request = cc in subst (IsUnderKey s es) same its
   due_under es (store_due place row) request its is =
@@ -111,6 +117,9 @@ module _ (s : Scene) where
   kept_due true es place row its = its
   kept_due false es place row its = its
 
+  discards_due : (es : List Event) (place : JobPlace) (keys : List (List ℕ)) → IsWorkUnderKey es (work_to_discard place keys)
+  discards_due es place keys = by_discards (IsWorkUnderKey es) place keys tt (λ key more. tt)
+
   keeps_due : {keep : Bool} {place : JobPlace} {job : Job} {found_row : Option Row} {millis : ℕ} {found : List Found} {outputs : Fields} {work : Work} {more : List Event} (es : List Event) →
       job_at s es place ≡ Some job → Keeps keep place job found_row millis found outputs work more → IsWorkUnderKey es work
   keeps_due es known (keeps_none once) = tt
@@ -143,13 +152,18 @@ module _ (s : Scene) where
     due_still may (finds place its_key row job known sound) = tt
     due_still may (finds_wrong place its_key row job known unsound) = tt
     due_still may (find_fails place its_key refusal) = tt
-    due_still may (puts place row) = tt
+    due_still {new = new} may (puts place row gone) = discards_due (f.events ++ new) place gone
     due_still may (put_fails place row refusal) = tt
-    due_still may (fetches place its_key number files found row its same) = tt
+    due_still {new = new} may (fetches place its_key number files found row its same) =
+        stays_key f.events new place row.key (step_fits s f marks may (fetches place its_key number files found row its same)) (are.rows place row its)
     due_still {new = new} may (fetches_other place its_key number files found row its other) =
         stays_key f.events new place row.key (step_fits s f marks may (fetches_other place its_key number files found row its other)) (are.rows place row its)
     due_still may (drops place its_key) = tt
     due_still may (drop_fails place its_key refusal) = tt
+    due_still may (touches place its_key) = tt
+    due_still may (touch_fails place its_key refusal) = tt
+    due_still {new = new} may (discards place its_key more is) = discards_due (f.events ++ new) place more
+    due_still {new = new} may (discard_fails place its_key more is) = discards_due (f.events ++ new) place more
     due_still may (delivers place plan) = tt
     due_still may loses_collect = tt
     due_still may (call_fails place request other unsettled) = tt

@@ -12,6 +12,7 @@ pub mod Makers
 pub mod LoadCosts
 pub mod Free
 pub mod Brought
+pub mod Discarding
 pub mod Elsewhere
 pub mod ElsewhereStarted
 pub mod FetchedOnce

@@ -13,10 +13,10 @@ use Rattle.job_graph.specs.Jobs.{Job}
 use Rattle.job_graph.specs.Unfold.{Resolved, Unfolded, is_at, nothing_known, unfolded}
 use Rattle.job_graph.specs.Words.{Name, Fields, JobPlace}
 use Rattle.run_rules.specs.Scene.{Scene}
-use Rattle.run_rules.specs.Events.{Event, file_measured, job_staged, job_started, child_exited, job_succeeded, job_failed, job_failed_for_now, result_delivered, host_failed, collect_failed, row_found, no_row, find_failed, put_failed, row_differs, job_repeated, Work, Progress, Started, measures, measures_after, measures_path, is_measured, are_measured, resolves, resolved, unfolding_at, job_at, row_at, store_failed, files_fetched, archive_differs, drop_failed, host_failed_late}
+use Rattle.run_rules.specs.Events.{Event, file_measured, job_staged, job_started, child_exited, job_succeeded, job_failed, job_failed_for_now, result_delivered, host_failed, collect_failed, row_found, no_row, find_failed, put_failed, row_differs, job_repeated, Work, Progress, Started, measures, measures_after, measures_path, is_measured, are_measured, resolves, resolved, unfolding_at, job_at, row_at, store_failed, files_fetched, archive_differs, drop_failed, touch_failed, discard_failed, host_failed_late}
 use Rattle.run_rules.specs.StartsOn.{StartsOn, reads_on as starts_reading, has_launch, has_no_launch, has_no_contents}
 use Rattle.run_rules.specs.CollectsOn.{CollectsOn, reads_on as collects_reading, collects, collects_none}
-use Rattle.run_rules.specs.Steps.{Steps, measures_file, stages, reads_input, starts, exits_well, exits_for_now, exits_badly, scans, reads_output, delivers, loses_collect, call_fails, finds_none, finds, finds_wrong, find_fails, puts, put_fails, stores, store_fails, fetches, fetches_other, drops, drop_fails, call_fails_late}
+use Rattle.run_rules.specs.Steps.{Steps, measures_file, stages, reads_input, starts, exits_well, exits_for_now, exits_badly, scans, reads_output, delivers, loses_collect, call_fails, finds_none, finds, finds_wrong, find_fails, puts, put_fails, stores, store_fails, fetches, fetches_other, drops, drop_fails, touches, touch_fails, discards, discard_fails, call_fails_late}
 use Rattle.plan_checker.specs.declared.plan.Mark.{Mark}
 use Rattle.run_rules.specs.Allowed.{Allowed}
 use Rattle.run_rules.specs.Plans.{PlansSoFar}
@@ -149,6 +149,8 @@ module _ (s : Scene) where
   same_measures es (files_fetched place number) fits all = refl
   same_measures es (archive_differs place its_key number) fits all = refl
   same_measures es (drop_failed place refusal) fits all = refl
+  same_measures es (touch_failed place refusal) fits all = refl
+  same_measures es (discard_failed place) fits all = refl
 
   -- so what is measured by then is measured at the end
   pub measures_stay : (es later : List Event) → Fits es later → are_measured s es ≡ true → fold measures_after (measures es) later ≡ measures es
@@ -223,6 +225,10 @@ module _ (s : Scene) where
   step_fits f marks may (fetches_other place its_key number files found row its other) = (tt, tt)
   step_fits f marks may (drops place its_key) = tt
   step_fits f marks may (drop_fails place its_key refusal) = (tt, tt)
+  step_fits f marks may (touches place its_key) = tt
+  step_fits f marks may (touch_fails place its_key refusal) = (tt, tt)
+  step_fits f marks may (discards place its_key more due) = tt
+  step_fits f marks may (discard_fails place its_key more due) = (tt, tt)
   step_fits f marks may loses_collect = (tt, tt)
   step_fits f marks may (call_fails place request other unsettled) = (tt, tt)
   step_fits f marks may (call_fails_late place request end other over) = (tt, tt)
@@ -230,7 +236,7 @@ module _ (s : Scene) where
   step_fits f marks may (finds place its_key row job known sound) = (record { job = job; known = known }, tt)
   step_fits f marks may (finds_wrong place its_key row job known unsound) = (tt, tt)
   step_fits f marks may (find_fails place its_key refusal) = (tt, tt)
-  step_fits f marks may (puts place row) = tt
+  step_fits f marks may (puts place row gone) = tt
   step_fits f marks may (put_fails place row refusal) = (tt, tt)
   step_fits f marks may (stores place key folder files row due) = tt
   step_fits f marks may (store_fails place key folder files row due) = (tt, tt)

@@ -37,10 +37,10 @@ use Rattle.job_graph.proofs.laws_of_walks.Passed.{Each, EachField}
 use Rattle.run_rules.specs.declared.request.Pair.{Pair}
 use Rattle.run_rules.specs.declared.setting.Options.{Options}
 use Rattle.run_rules.specs.Scene.{Scene}
-use Rattle.run_rules.specs.Events.{Event, file_measured, job_staged, job_started, child_exited, job_succeeded, job_failed, job_failed_for_now, result_delivered, host_failed, collect_failed, row_found, no_row, find_failed, put_failed, row_differs, job_repeated, Work, Progress, Started, resolved, store_failed, files_fetched, archive_differs, drop_failed, host_failed_late}
+use Rattle.run_rules.specs.Events.{Event, file_measured, job_staged, job_started, child_exited, job_succeeded, job_failed, job_failed_for_now, result_delivered, host_failed, collect_failed, row_found, no_row, find_failed, put_failed, row_differs, job_repeated, Work, Progress, Started, resolved, store_failed, files_fetched, archive_differs, drop_failed, touch_failed, discard_failed, host_failed_late}
 use Rattle.run_rules.specs.StartsOn.{StartsOn, reads_on as starts_reading, has_launch, has_no_launch, has_no_contents}
 use Rattle.run_rules.specs.CollectsOn.{CollectsOn, left_of, reads_on as collects_reading, collects, collects_none}
-use Rattle.run_rules.specs.Steps.{Steps, measures_file, stages, reads_input, starts, exits_well, exits_for_now, exits_badly, scans, reads_output, delivers, loses_collect, call_fails, finds_none, finds, finds_wrong, find_fails, puts, put_fails, stores, store_fails, fetches, fetches_other, drops, drop_fails, call_fails_late}
+use Rattle.run_rules.specs.Steps.{Steps, measures_file, stages, reads_input, starts, exits_well, exits_for_now, exits_badly, scans, reads_output, delivers, loses_collect, call_fails, finds_none, finds, finds_wrong, find_fails, puts, put_fails, stores, store_fails, fetches, fetches_other, drops, drop_fails, touches, touch_fails, discards, discard_fails, call_fails_late}
 use Rattle.run_rules.specs.Plans.{PlansSoFar}
 use Rattle.run_rules.specs.Run.{Goes, begins, asks}
 use Rattle.run_rules.specs.Keeps.{Keeps, keeps, keeps_none, differs, told_of}
@@ -219,6 +219,10 @@ module _ (s : Scene) where
   steps_named (fetches_other place its_key number files found row its other) = (tt, tt)
   steps_named (drops place its_key) = tt
   steps_named (drop_fails place its_key refusal) = (tt, tt)
+  steps_named (touches place its_key) = tt
+  steps_named (touch_fails place its_key refusal) = (tt, tt)
+  steps_named (discards place its_key more due) = tt
+  steps_named (discard_fails place its_key more due) = (tt, tt)
   steps_named loses_collect = (tt, tt)
   steps_named (call_fails place request other unsettled) = (tt, tt)
   steps_named (call_fails_late place request end other over) = (tt, tt)
@@ -226,7 +230,7 @@ module _ (s : Scene) where
   steps_named (finds place its_key row job known sound) = (sound_unmade job.tool row sound, tt)
   steps_named (finds_wrong place its_key row job known unsound) = (tt, tt)
   steps_named (find_fails place its_key refusal) = (tt, tt)
-  steps_named (puts place row) = tt
+  steps_named (puts place row gone) = tt
   steps_named (put_fails place row refusal) = (tt, tt)
   steps_named (stores place key folder files row due) = tt
   steps_named (store_fails place key folder files row due) = (tt, tt)
@@ -259,6 +263,8 @@ named_resolved (job_repeated place ∷ es) all = named_resolved es all.1
 named_resolved (files_fetched place number ∷ es) all = named_resolved es all.1
 named_resolved (archive_differs place its_key number ∷ es) all = named_resolved es all.1
 named_resolved (drop_failed place refusal ∷ es) all = named_resolved es all.1
+named_resolved (touch_failed place refusal ∷ es) all = named_resolved es all.1
+named_resolved (discard_failed place ∷ es) all = named_resolved es all.1
 
 -- the outputs that a run has learned are named
 pub learned_are_named : (s : Scene) {Plans : Progress → List Mark → Type 0} {t : List Pair} {f : Progress} {plans : PlansSoFar} → Goes s Plans t f plans → AreNamed (resolved f.events)

@@ -56,9 +56,11 @@ module _ (s : Scene) (f : Progress) (marks : List Mark) where
   after_lost (Request.Host place (HostRequest.Head path limit)) idle is may = not_due s f (Request.Host place (HostRequest.Head path limit)) idle may
   after_lost (Request.Host place (HostRequest.Fetch key number files)) idle is may = yes_and_no lost_one is may.free.still.collects
   after_lost (Request.Host place (HostRequest.Store key folder files)) idle is may = not_due s f (Request.Host place (HostRequest.Store key folder files)) idle may
+  after_lost (Request.Host place (HostRequest.Discard key)) idle is may = not_due s f (Request.Host place (HostRequest.Discard key)) idle may
   after_lost (Request.Host place (HostRequest.Deliver plan)) idle is may = yes_and_no lost_one is may.busy.free.still.collects
   after_lost (Request.Record place (RecordRequest.Find its_key)) idle is may = yes_and_no lost_one is may.still.collects
   after_lost (Request.Record place (RecordRequest.Put row)) idle is may = not_due s f (Request.Record place (RecordRequest.Put row)) idle may
+  after_lost (Request.Record place (RecordRequest.Touch its_key)) idle is may = not_due s f (Request.Record place (RecordRequest.Touch its_key)) idle may
   after_lost (Request.Record place (RecordRequest.DropArchive its_key)) idle is may = not_due s f (Request.Record place (RecordRequest.DropArchive its_key)) idle may
   after_lost Request.Finished idle is may = not_due s f Request.Finished idle may
 
@@ -72,9 +74,11 @@ module _ (s : Scene) (f : Progress) (marks : List Mark) where
   after_failure end (Request.Host place (HostRequest.Head path limit)) idle landed is may = not_due s f (Request.Host place (HostRequest.Head path limit)) idle may
   after_failure end (Request.Host place (HostRequest.Fetch key number files)) idle landed is may = some_and_none (settled s f.events) end is may.free.still.unsettled
   after_failure end (Request.Host place (HostRequest.Store key folder files)) idle landed is may = not_due s f (Request.Host place (HostRequest.Store key folder files)) idle may
+  after_failure end (Request.Host place (HostRequest.Discard key)) idle landed is may = not_due s f (Request.Host place (HostRequest.Discard key)) idle may
   after_failure end (Request.Host place (HostRequest.Deliver plan)) idle landed is may = some_and_none (settled s f.events) end is may.busy.free.still.unsettled
   after_failure end (Request.Record place (RecordRequest.Find its_key)) idle landed is may = some_and_none (settled s f.events) end is may.still.unsettled
   after_failure end (Request.Record place (RecordRequest.Put row)) idle landed is may = not_due s f (Request.Record place (RecordRequest.Put row)) idle may
+  after_failure end (Request.Record place (RecordRequest.Touch its_key)) idle landed is may = not_due s f (Request.Record place (RecordRequest.Touch its_key)) idle may
   after_failure end (Request.Record place (RecordRequest.DropArchive its_key)) idle landed is may =
       not_due s f (Request.Record place (RecordRequest.DropArchive its_key)) idle may
   after_failure end Request.Finished idle landed is may = not_due s f Request.Finished idle may
@@ -106,11 +110,13 @@ module _ (s : Scene) (f : Progress) (marks : List Mark) where
   over (Request.Host place (HostRequest.Scan folder)) (succeeds outputs delivered busy landed result is) may = not_due s f (Request.Host place (HostRequest.Scan folder)) busy.free.still.idle may
   over (Request.Host place (HostRequest.Fetch key number files)) (succeeds outputs delivered busy landed result is) may = busy.no_fetch place key number files may
   over (Request.Host place (HostRequest.Store key folder files)) (succeeds outputs delivered busy landed result is) may = not_due s f (Request.Host place (HostRequest.Store key folder files)) busy.free.still.idle may
+  over (Request.Host place (HostRequest.Discard key)) (succeeds outputs delivered busy landed result is) may = not_due s f (Request.Host place (HostRequest.Discard key)) busy.free.still.idle may
   over (Request.Host place (HostRequest.Head path limit)) (succeeds outputs delivered busy landed result is) may = not_due s f (Request.Host place (HostRequest.Head path limit)) busy.free.still.idle may
   over (Request.Host place (HostRequest.Deliver plan)) (succeeds outputs delivered busy landed result is) may =
       after_delivery outputs delivered place plan result is may
   over (Request.Record place (RecordRequest.Find its_key)) (succeeds outputs delivered busy landed result is) may = no_find place its_key busy.free may
   over (Request.Record place (RecordRequest.Put row)) (succeeds outputs delivered busy landed result is) may = not_due s f (Request.Record place (RecordRequest.Put row)) busy.free.still.idle may
+  over (Request.Record place (RecordRequest.Touch its_key)) (succeeds outputs delivered busy landed result is) may = not_due s f (Request.Record place (RecordRequest.Touch its_key)) busy.free.still.idle may
   over (Request.Record place (RecordRequest.DropArchive its_key)) (succeeds outputs delivered busy landed result is) may =
       not_due s f (Request.Record place (RecordRequest.DropArchive its_key)) busy.free.still.idle may
   over Request.Finished (succeeds outputs delivered busy landed result is) may = not_due s f Request.Finished busy.free.still.idle may

@@ -1,5 +1,5 @@
 -- The worked rows `reuse-chain` and `altered-fetch`, computed: a job that reads a file of another, both with an archived row, and the output is its
--- file. Each file has 250,000 bytes and each job took 1000 milliseconds. What is planned after each answer, and what it costs.
+-- file. Each file has 250,000 bytes and each job took 1000 milliseconds. What is planned after each answer, and what it costs; and so where no archive is kept.
 use Rattle.std.specs.Prelude.{codes, false, ◌||◌, ◌<◌, ◌≤◌}
 use Rattle.std.proofs.Common.{◌≡◌, ◌≢◌, ◌∙◌, ℕ, zero, suc, Bool, true, cond, List, [], ◌∷◌, ◌++◌, All, IsSome, Option, Some, None, refl, sym, subst, ap, arith, rules}
 use Rattle.cwl_value.specs.declared.place.Place.{Place}
@@ -21,7 +21,7 @@ use Rattle.staging.specs.declared.found.Found.{Found}
 use Rattle.run_rules.specs.declared.outcome.PlanNote.{PlanNote}
 use Rattle.run_rules.specs.declared.setting.Options.{Options}
 use Rattle.run_rules.specs.Costs.{graph_at}
-use Rattle.run_rules.specs.Events.{Event, archive_differs, drop_due, files_fetched, row_found}
+use Rattle.run_rules.specs.Events.{Event, archive_differs, drop_due, touch_due, discard_due, files_fetched, row_found}
 use Rattle.run_rules.specs.Plans.{InForce, PlansSoFar, is_planning, no_plans}
 use Rattle.run_rules.specs.Run.{Replans}
 use Rattle.run_rules.specs.Scene.{Scene}
@@ -75,8 +75,11 @@ s = record { walker = λ measures. chain; paths = []; options = keeping; made_be
 abbrev files : List Found
 files = record { name = codes "o"; is_dir = false; size = 250000; sum = codes "5" } ∷ []
 
+abbrev row_if : Bool → List ℕ → Row
+row_if archived key = made_row key ((codes "o", file (Place.Url (codes "o"))) ∷ []) files 1000 archived
+
 abbrev row_of : List ℕ → Row
-row_of key = made_row key ((codes "o", file (Place.Url (codes "o"))) ∷ []) files 1000 true
+row_of key = row_if true key
 
 -- ---- what is made by which job
 
@@ -94,11 +97,11 @@ graph_by load_a load_c parent needs_a needs_c =
 abbrev graph : Option ℕ → List Vertex
 graph load_c = graph_by (Some 4) load_c true false true
 
-made_so : (load_c : Option ℕ) → graph_by (Some 4) load_c (any_made a (output_of a)) (any_made a (output_of c)) (any_made c (output_of c)) ≡ graph load_c
-made_so load_c =
-    ap (λ b. graph_by (Some 4) load_c b (any_made a (output_of c)) (any_made c (output_of c))) (made_of a a)
-    ∙ ap (λ b. graph_by (Some 4) load_c true b (any_made c (output_of c))) (made_of a c)
-    ∙ ap (λ b. graph_by (Some 4) load_c true false b) (made_of c c)
+made_so : (load_a load_c : Option ℕ) → graph_by load_a load_c (any_made a (output_of a)) (any_made a (output_of c)) (any_made c (output_of c)) ≡ graph_by load_a load_c true false true
+made_so load_a load_c =
+    ap (λ b. graph_by load_a load_c b (any_made a (output_of c)) (any_made c (output_of c))) (made_of a a)
+    ∙ ap (λ b. graph_by load_a load_c true b (any_made c (output_of c))) (made_of a c)
+    ∙ ap (λ b. graph_by load_a load_c true false b) (made_of c c)
 
 -- ---- plans of two jobs
 
@@ -197,6 +200,69 @@ computed_is_least = record {
   };
 }
 
+-- where the record keeps no archive, both are computed
+abbrev bare : List Vertex
+bare = graph_by None None true false true
+
+abbrev both : List Mark
+both = Compute ∷ Compute ∷ []
+
+none_before : All (λ p. mark both p ≢ Prune) []
+none_before k d below = absurd (omega (arith, below))
+
+first_is_kept : All (λ p. mark both p ≢ Prune) (0 ∷ [])
+first_is_kept zero d below = λ gone. cc
+first_is_kept (suc k) d below = absurd (omega (arith, below))
+
+both_are_valid : IsValid bare both
+both_are_valid = record {
+  one_each = refl;
+  allowed = each_of_two (λ i. IsAllowed both (vertex bare i) (mark both i)) none_before first_is_kept;
+}
+
+second_by : (other : List Mark) → IsValid bare other → (m : Mark) → mark other 1 ≡ m → m ≡ Compute
+second_by other valid Load is =
+    absurd (no_load (vertex bare 1).load refl (subst (λ (m : Mark). IsAllowed other (vertex bare 1) m) is (valid.allowed 1 (omega arith))))
+second_by other valid Compute is = refl
+second_by other valid Prune is =
+    let never : true ≡ false = subst (λ (m : Mark). IsAllowed other (vertex bare 1) m) is (valid.allowed 1 (omega arith)) in absurd cc
+
+computes_second : (other : List Mark) → IsValid bare other → mark other 1 ≡ Compute
+computes_second other valid = second_by other valid (mark other 1) refl
+
+first_by : (other : List Mark) → IsValid bare other → (m : Mark) → mark other 0 ≡ m → m ≡ Compute
+first_by other valid Load is =
+    absurd (no_load (vertex bare 0).load refl (subst (λ (m : Mark). IsAllowed other (vertex bare 0) m) is (valid.allowed 0 (omega arith))))
+first_by other valid Compute is = refl
+first_by other valid Prune is =
+    let all : All (λ p. mark other p ≢ Prune) (0 ∷ []) =
+    subst (λ (m : Mark). IsAllowed other (vertex bare 1) m) (computes_second other valid) (valid.allowed 1 (omega arith)) in
+    absurd (all 0 0 (omega arith) is)
+
+computes_first : (other : List Mark) → IsValid bare other → mark other 0 ≡ Compute
+computes_first other valid = first_by other valid (mark other 0) refl
+
+no_prune : (m : Mark) → m ≡ Compute → m ≢ Prune
+no_prune Compute is = λ gone. cc
+no_prune Load is = absurd cc
+no_prune Prune is = absurd cc
+
+both_are_least : IsLeast bare both
+both_are_least = record {
+  cheapest = record {
+    valid = both_are_valid;
+    cheapest = λ other valid.
+        let first : cost_of (vertex bare 0) (mark other 0) ≡ 1000 = ap (λ (m : Mark). cost_of (vertex bare 0) m) (computes_first other valid) in
+        let second : cost_of (vertex bare 1) (mark other 1) ≡ 1000 = ap (λ (m : Mark). cost_of (vertex bare 1) m) (computes_second other valid) in
+        omega (arith, first, second);
+  };
+  least = λ other its. record {
+    computes = each_of_two (λ i. mark both i ≡ Compute → mark other i ≡ Compute) (λ is. computes_first other its.valid) (λ is. computes_second other its.valid);
+    keeps = each_of_two (λ i. mark both i ≢ Prune → mark other i ≢ Prune) (λ kept. no_prune (mark other 0) (computes_first other its.valid))
+        (λ kept. no_prune (mark other 1) (computes_second other its.valid));
+  };
+}
+
 -- ---- what is planned
 
 abbrev note : ℕ → ℕ → PlanNote
@@ -210,7 +276,7 @@ abbrev first_plan : PlansSoFar
 first_plan = record { graph = graph (Some 4); marks = loaded; notes = note 2 4 ∷ [] }
 
 its_graph : graph_at s found ≡ graph (Some 4)
-its_graph = made_so (Some 4)
+its_graph = made_so (Some 4) (Some 4)
 
 is_planned : is_planning s (at found) ≡ true
 is_planned = rw (holds a (Place.Made a (codes "o"))) refl
@@ -220,41 +286,65 @@ planned_first =
     is_made s (at found) 2 no_plans first_plan is_planned
     (record { graph = sym its_graph; marks = subst (λ (g : List Vertex). IsLeast g loaded) (sym its_graph) (loaded_is_least 4 (omega arith)); notes = refl })
 
--- once they are there, nothing is left to be done
+-- once they are there, and it is noted that their archive was used, nothing is left to be done
 abbrev fetched : List Event
 fetched = found ++ files_fetched c 1 ∷ []
 
+not_planned_yet : Replans s (InForce s) 3 (record { work = touch_due c (codes "c"); events = fetched }) first_plan first_plan
+not_planned_yet = refl
+
 its_graph_then : graph_at s fetched ≡ graph (Some 0)
-its_graph_then = made_so (Some 0)
+its_graph_then = made_so (Some 4) (Some 0)
 
 abbrev plan_then : PlansSoFar
-plan_then = record { graph = graph (Some 0); marks = loaded; notes = note 2 4 ∷ note 3 0 ∷ [] }
+plan_then = record { graph = graph (Some 0); marks = loaded; notes = note 2 4 ∷ note 4 0 ∷ [] }
 
 is_planned_then : is_planning s (at fetched) ≡ true
 is_planned_then = rw (holds a (Place.Made a (codes "o"))) refl
 
-planned_then : Replans s (InForce s) 3 (at fetched) first_plan plan_then
+planned_then : Replans s (InForce s) 4 (at fetched) first_plan plan_then
 planned_then =
-    is_made s (at fetched) 3 first_plan plan_then is_planned_then
+    is_made s (at fetched) 4 first_plan plan_then is_planned_then
     (record { graph = sym its_graph_then; marks = subst (λ (g : List Vertex). IsLeast g loaded) (sym its_graph_then) (loaded_is_least 0 (omega arith)); notes = refl })
 
--- where they are not what the row has, nothing is planned before the archive is dropped; then the first job's files are fetched, and the second is computed
+-- where they are not what the row has, nothing is planned before the archive is dropped and discarded; then the first job's files are fetched, and the second is computed
 abbrev altered : List Event
 altered = found ++ archive_differs c (codes "c") 1 ∷ []
 
 not_planned : Replans s (InForce s) 3 (record { work = drop_due c (codes "c"); events = altered }) first_plan first_plan
 not_planned = refl
 
+nor_before_it_is_discarded : Replans s (InForce s) 4 (record { work = discard_due c (codes "c") []; events = altered }) first_plan first_plan
+nor_before_it_is_discarded = refl
+
 its_graph_altered : graph_at s altered ≡ graph None
-its_graph_altered = made_so None
+its_graph_altered = made_so (Some 4) None
 
 abbrev new_plan : PlansSoFar
-new_plan = record { graph = graph None; marks = computed; notes = note 2 4 ∷ note 4 1004 ∷ [] }
+new_plan = record { graph = graph None; marks = computed; notes = note 2 4 ∷ note 5 1004 ∷ [] }
 
 is_planned_anew : is_planning s (at altered) ≡ true
 is_planned_anew = rw (holds a (Place.Made a (codes "o"))) refl
 
-planned_anew : Replans s (InForce s) 4 (at altered) first_plan new_plan
+planned_anew : Replans s (InForce s) 5 (at altered) first_plan new_plan
 planned_anew =
-    is_made s (at altered) 4 first_plan new_plan is_planned_anew
+    is_made s (at altered) 5 first_plan new_plan is_planned_anew
     (record { graph = sym its_graph_altered; marks = subst (λ (g : List Vertex). IsLeast g computed) (sym its_graph_altered) computed_is_least; notes = refl })
+
+-- where a budget of no bytes lets the record keep no archive, both are computed
+abbrev unarchived : List Event
+unarchived = row_found a (row_if false (codes "a")) ∷ row_found c (row_if false (codes "c")) ∷ []
+
+its_graph_unarchived : graph_at s unarchived ≡ bare
+its_graph_unarchived = made_so None None
+
+abbrev bare_plan : PlansSoFar
+bare_plan = record { graph = bare; marks = both; notes = note 2 2000 ∷ [] }
+
+is_planned_bare : is_planning s (at unarchived) ≡ true
+is_planned_bare = rw (holds a (Place.Made a (codes "o"))) refl
+
+planned_bare : Replans s (InForce s) 2 (at unarchived) no_plans bare_plan
+planned_bare =
+    is_made s (at unarchived) 2 no_plans bare_plan is_planned_bare
+    (record { graph = sym its_graph_unarchived; marks = subst (λ (g : List Vertex). IsLeast g both) (sym its_graph_unarchived) both_are_least; notes = refl })

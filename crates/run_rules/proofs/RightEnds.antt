@@ -15,7 +15,7 @@ use Rattle.run_rules.specs.declared.request.Pair.{Pair}
 use Rattle.run_rules.specs.declared.setting.Setting.{Setting}
 use Rattle.job_key.specs.Key.{key}
 use Rattle.run_rules.specs.Scene.{Scene, scene_of}
-use Rattle.run_rules.specs.Events.{Event, file_measured, job_staged, job_started, child_exited, job_succeeded, job_failed, job_failed_for_now, result_delivered, host_failed, collect_failed, row_found, no_row, find_failed, put_failed, row_differs, job_repeated, measures, measures_after, are_measured, resolved, unfolding_at, job_at, row_at, row_if, store_failed, files_fetched, archive_differs, drop_failed, host_failed_late}
+use Rattle.run_rules.specs.Events.{Event, file_measured, job_staged, job_started, child_exited, job_succeeded, job_failed, job_failed_for_now, result_delivered, host_failed, collect_failed, row_found, no_row, find_failed, put_failed, row_differs, job_repeated, measures, measures_after, are_measured, resolved, unfolding_at, job_at, row_at, row_if, store_failed, files_fetched, archive_differs, drop_failed, touch_failed, discard_failed, host_failed_late}
 use Rattle.run_rules.specs.End.{End, succeeds_with, fails_permanently, fails_temporarily, beyond_limits, ended_by_host, ended_by_record, fault_end, gives_up, settled_by, unfold_end, settled_from, settled, mismatches}
 use Rattle.run_rules.specs.Plans.{InForce}
 use Rattle.run_rules.specs.Honest.{AgreesAt, AgreesFrom, IsHonest, Means}
@@ -116,6 +116,8 @@ module _ (s : Scene) (world : World) (all : Measures) (evaluates : Evaluates wor
   breaks_rightly es later (files_fetched at number) place cause fits leads agrees_so given is = absurd cc
   breaks_rightly es later (archive_differs at its_key number) place cause fits leads agrees_so given is = absurd cc
   breaks_rightly es later (drop_failed at refusal) place cause fits leads agrees_so given is = absurd cc
+  breaks_rightly es later (touch_failed at refusal) place cause fits leads agrees_so given is = absurd cc
+  breaks_rightly es later (discard_failed at) place cause fits leads agrees_so given is = absurd cc
 
   lacks_rightly : (es later : List Event) (place : JobPlace) (cause : Cause) → Fits s es later → Leads_to es later → AreGiven s world es →
       unfold_end s es ≡ Some (fails_permanently place cause) → Fails
@@ -205,6 +207,8 @@ module _ (s : Scene) (world : World) where
   rows_given_one es (files_fetched at number) fits agrees_so given = row_as_before es (files_fetched at number) fits (λ place last. refl) given
   rows_given_one es (archive_differs at its_key number) fits agrees_so given = row_as_before es (archive_differs at its_key number) fits (λ place last. refl) given
   rows_given_one es (drop_failed at refusal) fits agrees_so given = row_as_before es (drop_failed at refusal) fits (λ place last. refl) given
+  rows_given_one es (touch_failed at refusal) fits agrees_so given = row_as_before es (touch_failed at refusal) fits (λ place last. refl) given
+  rows_given_one es (discard_failed at) fits agrees_so given = row_as_before es (discard_failed at) fits (λ place last. refl) given
 
   -- the world gives the one job at a place one thing
   one_given : (es : List Event) (place : JobPlace) (job : Job) (outputs : Fields) → job_at s es place ≡ Some job → IsGiven s world es place outputs →
@@ -254,6 +258,8 @@ module _ (s : Scene) (world : World) where
   breaks_nowhere es (files_fetched at number) place fits agrees_so given is = cc
   breaks_nowhere es (archive_differs at its_key number) place fits agrees_so given is = cc
   breaks_nowhere es (drop_failed at refusal) place fits agrees_so given is = cc
+  breaks_nowhere es (touch_failed at refusal) place fits agrees_so given is = cc
+  breaks_nowhere es (discard_failed at) place fits agrees_so given is = cc
 
   fault_is_no_mismatch : (fault : Option Fault) (place : JobPlace) → fault_end fault ≡ Some (mismatches place) → ⊥
   fault_is_no_mismatch None place is = cc

@@ -402,7 +402,7 @@ module _ (is : IsLaunch hello abc (runtime_of options 1) its_launch) (collected 
       ∷ call [] (HostRequest.Start its_launch) (HostAnswer.Started 1)
       ∷ call [] HostRequest.Collect (HostAnswer.Ended (one_ended (Some (pos 0))))
       ∷ call [] (HostRequest.Scan (codes "w/j1/out")) (HostAnswer.Listed (out ∷ []))
-      ∷ command [] (RecordRequest.Put its_row) RecordAnswer.Done
+      ∷ command [] (RecordRequest.Put its_row) (RecordAnswer.Put [])
       ∷ call [] (HostRequest.Deliver its_plan) HostAnswer.Done
       ∷ []) (after_events whole)
   it_goes =
@@ -411,7 +411,7 @@ module _ (is : IsLaunch hello abc (runtime_of options 1) its_launch) (collected 
       (follows (starts [] abc its_launch 1 refl)
       (follows (exits_well [] (one_ended (Some (pos 0))) job (0, lit< tt, refl) refl refl)
       (follows (scans [] (codes "w/j1/out") (one_ended (Some (pos 0))).millis (out ∷ []) job its_start [] (put_due [] its_row) (job_succeeded [] found_out ∷ []) refl refl refl unread (collects found_out _ _ collected (keeps refl tt)))
-      (follows (puts [] its_row)
+      (follows (puts [] its_row [])
       (follows (delivers [] its_plan) stays))))))
 
 abbrev started : List Event

@@ -19,15 +19,16 @@ use Rattle.run_rules.specs.declared.request.Request.{Request}
 use Rattle.run_rules.specs.Allowed.{Allowed, due_in}
 use Rattle.run_rules.specs.Blame.{Rise, given_tickets}
 use Rattle.run_rules.specs.End.{End, ended_by_host, settled}
-use Rattle.run_rules.specs.Events.{Event, Progress, Work, nothing_due, input_heads_due, start_due, scan_due, output_heads_due, put_due, store_due, drop_due, brings, child_exited, flight_after, host_failed, in_flight, is_at_hand, is_held, job_failed, job_failed_for_now, job_staged, job_started, row_at, row_differs}
+use Rattle.run_rules.specs.Events.{Event, Progress, Work, nothing_due, input_heads_due, start_due, scan_due, output_heads_due, put_due, store_due, drop_due, touch_due, discard_due, brings, child_exited, flight_after, host_failed, in_flight, is_at_hand, is_held, job_failed, job_failed_for_now, job_staged, job_started, row_at, row_differs}
 use Rattle.run_rules.specs.HowOften.{is_start_of, times}
 use Rattle.run_rules.specs.Plans.{PlansSoFar}
 use Rattle.run_rules.specs.Reports.{entries_of}
 use Rattle.run_rules.specs.Run.{Goes, asks, begins}
 use Rattle.run_rules.specs.Scene.{Scene}
-use Rattle.run_rules.specs.Steps.{Steps, progress_with, measures_file, stages, reads_input, starts, exits_well, exits_for_now, exits_badly, scans, reads_output, finds_none, finds, finds_wrong, find_fails, puts, put_fails, fetches, fetches_other, drops, drop_fails, delivers, loses_collect, call_fails, call_fails_late, stores, store_fails}
+use Rattle.run_rules.specs.Steps.{Steps, progress_with, measures_file, stages, reads_input, starts, exits_well, exits_for_now, exits_badly, scans, reads_output, finds_none, finds, finds_wrong, find_fails, puts, put_fails, fetches, fetches_other, drops, drop_fails, touches, touch_fails, discards, discard_fails, delivers, loses_collect, call_fails, call_fails_late, stores, store_fails, work_to_discard}
 use Rattle.run_rules.proofs.FetchedOnce.{count_more}
 use Rattle.run_rules.proofs.FailedFew.{failed_few, gave_up}
+use Rattle.run_rules.proofs.Discarding.{by_discards}
 use Rattle.run_rules.proofs.Working.{CollectsAs, StartsAs, before_not_past, brings_it, collects_as, differs_to, fails_so, fails_to, goes_on, reads, starts_as, works_before, works_past}
 use Rattle.run_rules.proofs.Flying.{all_grounded, flies_or_landed, is_grounded, rose_before, tickets_are_apart}
 use Rattle.run_rules.proofs.Places.{same_place}
@@ -114,6 +115,10 @@ module _ (s : Scene) (place : JobPlace) where
   idle_not_past : (f : Progress) → f.work ≡ nothing_due → works_past place f.work ≡ false
   idle_not_past f idle = ap (works_past place) idle
 
+  -- what discards archives comes of no job that is still to be started
+  not_before : (q : JobPlace) (keys : List (List ℕ)) → works_before place (work_to_discard q keys) ≡ false
+  not_before q keys = by_discards (λ work. works_before place work ≡ false) q keys refl (λ key more. refl)
+
   -- where a command to the record is due
   by_record : (f : Progress) (work : Work) (q : JobPlace) (request : RecordRequest) → due_in s f.events work ≡ Some (Request.Record q request) → works_past place work ≡ false
   by_record f nothing_due q request is = refl
@@ -124,6 +129,8 @@ module _ (s : Scene) (place : JobPlace) where
   by_record f (output_heads_due p millis found (name ∷ todo) read) q request is = absurd cc
   by_record f (put_due p row) q request is = refl
   by_record f (drop_due p key) q request is = refl
+  by_record f (touch_due p key) q request is = refl
+  by_record f (discard_due p key more) q request is = refl
   by_record f (store_due p row) q request is = refl
 
   -- one that stages it, or reads for it
@@ -252,12 +259,16 @@ module _ (s : Scene) (place : JobPlace) where
     keeps_on (finds q its_key row job known sound) may other = plainly f nothing_due _ refl (idle_not_past f may.still.idle) refl
     keeps_on (finds_wrong q its_key row job known unsound) may other = plainly f nothing_due _ refl (idle_not_past f may.still.idle) refl
     keeps_on (find_fails q its_key refusal) may other = plainly f nothing_due _ refl (idle_not_past f may.still.idle) refl
-    keeps_on (puts q row) may other = plainly f nothing_due [] refl (by_record f f.work q (RecordRequest.Put row) may) refl
+    keeps_on (puts q row gone) may other = plainly f _ [] refl (by_record f f.work q (RecordRequest.Put row) may) (not_before q gone)
     keeps_on (put_fails q row refusal) may other = plainly f nothing_due _ refl (by_record f f.work q (RecordRequest.Put row) may) refl
-    keeps_on (fetches q its_key number files found row its same) may other = plainly f nothing_due _ refl (idle_not_past f may.free.still.idle) refl
+    keeps_on (fetches q its_key number files found row its same) may other = plainly f _ _ refl (idle_not_past f may.free.still.idle) refl
     keeps_on (fetches_other q its_key number files found row its differ) may other = plainly f _ _ refl (idle_not_past f may.free.still.idle) refl
-    keeps_on (drops q its_key) may other = plainly f nothing_due [] refl (by_record f f.work q (RecordRequest.DropArchive its_key) may) refl
-    keeps_on (drop_fails q its_key refusal) may other = plainly f nothing_due _ refl (by_record f f.work q (RecordRequest.DropArchive its_key) may) refl
+    keeps_on (touches q its_key) may other = plainly f nothing_due [] refl (by_record f f.work q (RecordRequest.Touch its_key) may) refl
+    keeps_on (touch_fails q its_key refusal) may other = plainly f nothing_due _ refl (by_record f f.work q (RecordRequest.Touch its_key) may) refl
+    keeps_on (drops q its_key) may other = plainly f _ [] refl (by_record f f.work q (RecordRequest.DropArchive its_key) may) refl
+    keeps_on (drop_fails q its_key refusal) may other = plainly f _ _ refl (by_record f f.work q (RecordRequest.DropArchive its_key) may) refl
+    keeps_on (discards q its_key more is) may other = plainly f _ [] refl (ap (works_past place) is) (not_before q more)
+    keeps_on (discard_fails q its_key more is) may other = plainly f _ _ refl (ap (works_past place) is) (not_before q more)
     keeps_on (delivers q plan) may other = plainly f nothing_due _ refl (idle_not_past f may.busy.free.still.idle) refl
     keeps_on loses_collect may other = plainly f nothing_due _ refl (idle_not_past f may.idle) refl
     keeps_on (call_fails q request apart_from unsettled) may other =
@@ -279,6 +290,8 @@ module _ (s : Scene) (place : JobPlace) where
     start_is_due (output_heads_due p millis found (name ∷ todo) read) q launch is same = absurd cc
     start_is_due (put_due p row) q launch is same = absurd cc
     start_is_due (drop_due p key) q launch is same = absurd cc
+    start_is_due (touch_due p key) q launch is same = absurd cc
+    start_is_due (discard_due p key more) q launch is same = absurd cc
     start_is_due (store_due p row) q launch is same = absurd cc
 
     of_start : (request : Request) → is_start_of place request ≡ true → Allowed s f marks request → works_before place f.work ≡ true
@@ -317,12 +330,16 @@ module _ (s : Scene) (place : JobPlace) where
     takes (finds q its_key row job known sound) it unsettled = absurd cc
     takes (finds_wrong q its_key row job known unsound) it unsettled = absurd cc
     takes (find_fails q its_key refusal) it unsettled = absurd cc
-    takes (puts q row) it unsettled = absurd cc
+    takes (puts q row gone) it unsettled = absurd cc
     takes (put_fails q row refusal) it unsettled = absurd cc
     takes (fetches q its_key number files found row its same) it unsettled = absurd cc
     takes (fetches_other q its_key number files found row its other) it unsettled = absurd cc
     takes (drops q its_key) it unsettled = absurd cc
     takes (drop_fails q its_key refusal) it unsettled = absurd cc
+    takes (touches q its_key) it unsettled = absurd cc
+    takes (touch_fails q its_key refusal) it unsettled = absurd cc
+    takes (discards q its_key more is) it unsettled = absurd cc
+    takes (discard_fails q its_key more is) it unsettled = absurd cc
     takes (delivers q plan) it unsettled = absurd cc
     takes loses_collect it unsettled = absurd cc
     takes (stores q key folder files row is) it unsettled = absurd cc

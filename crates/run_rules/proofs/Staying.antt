@@ -8,7 +8,7 @@ use Rattle.job_graph.specs.Jobs.{Job, Walker}
 use Rattle.job_graph.specs.Unfold.{Resolved, Unfolded, is_at, is_known, job_met, jobs_after, met_after, nothing_known, unfolded, with_job}
 use Rattle.job_graph.specs.Words.{Name, Fields, JobPlace}
 use Rattle.run_rules.specs.Scene.{Scene}
-use Rattle.run_rules.specs.Events.{Event, file_measured, job_staged, job_started, child_exited, job_succeeded, job_failed, job_failed_for_now, result_delivered, host_failed, collect_failed, row_found, no_row, find_failed, put_failed, row_differs, job_repeated, measures, measures_after, measures_path, are_measured, resolved, resolves, unfolding_at, job_at, store_failed, files_fetched, archive_differs, drop_failed, host_failed_late}
+use Rattle.run_rules.specs.Events.{Event, file_measured, job_staged, job_started, child_exited, job_succeeded, job_failed, job_failed_for_now, result_delivered, host_failed, collect_failed, row_found, no_row, find_failed, put_failed, row_differs, job_repeated, measures, measures_after, measures_path, are_measured, resolved, resolves, unfolding_at, job_at, store_failed, files_fetched, archive_differs, drop_failed, touch_failed, discard_failed, host_failed_late}
 use Rattle.run_rules.proofs.Measuring.{FitsAt, Fits, known_as_before, all_same, measures_more, resolved_one}
 
 abbrev known_if : Bool → Unfolded → Unfolded
@@ -86,6 +86,8 @@ module _ (s : Scene) where
   stays_one es place job (files_fetched at number) fits is = quietly es place job _ (known_as_before s es (files_fetched at number) (λ p. refl) refl refl) is
   stays_one es place job (archive_differs at its_key number) fits is = quietly es place job _ (known_as_before s es (archive_differs at its_key number) (λ p. refl) refl refl) is
   stays_one es place job (drop_failed at refusal) fits is = quietly es place job _ (known_as_before s es (drop_failed at refusal) (λ p. refl) refl refl) is
+  stays_one es place job (touch_failed at refusal) fits is = quietly es place job _ (known_as_before s es (touch_failed at refusal) (λ p. refl) refl refl) is
+  stays_one es place job (discard_failed at) fits is = quietly es place job _ (known_as_before s es (discard_failed at) (λ p. refl) refl refl) is
 
   pub stays_known : (es later : List Event) (place : JobPlace) (job : Job) → Fits s es later → job_at s es place ≡ Some job → job_at s (es ++ later) place ≡ Some job
   stays_known es [] place job fits is = subst (λ (x : List Event). job_at s x place ≡ Some job) (sym (append-nil es)) is

@@ -12,7 +12,7 @@ use Rattle.job_graph.specs.Unfold.{Fault, fault_at, too_many_jobs, Resolved, Unf
 use Rattle.job_graph.specs.Words.{Fields, JobPlace, is_same_place}
 use Rattle.job_rows.specs.declared.row.Row.{Row}
 use Rattle.run_rules.specs.Scene.{Scene, scene_of}
-use Rattle.run_rules.specs.Events.{Event, file_measured, job_staged, job_started, child_exited, job_succeeded, job_failed, job_failed_for_now, result_delivered, host_failed, collect_failed, row_found, no_row, find_failed, put_failed, row_differs, job_repeated, Progress, measures, are_measured, resolved, unfolding_at, job_at, row_at, store_failed, files_fetched, archive_differs, drop_failed, host_failed_late}
+use Rattle.run_rules.specs.Events.{Event, file_measured, job_staged, job_started, child_exited, job_succeeded, job_failed, job_failed_for_now, result_delivered, host_failed, collect_failed, row_found, no_row, find_failed, put_failed, row_differs, job_repeated, Progress, measures, are_measured, resolved, unfolding_at, job_at, row_at, store_failed, files_fetched, archive_differs, drop_failed, touch_failed, discard_failed, host_failed_late}
 use Rattle.run_rules.specs.End.{End, succeeds_with, fails_permanently, fails_temporarily, fault_end, gives_up, settled_by, unfold_end, settled_from, settled, mismatches}
 use Rattle.run_rules.specs.EndsSo.{EndsSo, IsDelivered, fails, succeeds}
 use Rattle.plan_checker.specs.declared.plan.Mark.{Mark}
@@ -70,6 +70,8 @@ module _ (s : Scene) where
   settled_by_failure es (files_fetched place number) = tt
   settled_by_failure es (archive_differs place its_key number) = tt
   settled_by_failure es (drop_failed place refusal) = tt
+  settled_by_failure es (touch_failed place refusal) = tt
+  settled_by_failure es (discard_failed place) = tt
 
   settled_later : (es later : List Event) → IsNoSuccess (settled_from s es later)
   settled_later es [] = tt
@@ -151,6 +153,8 @@ where_resolved (job_repeated at ∷ es) place is = further _ es place (where_res
 where_resolved (files_fetched at number ∷ es) place is = further _ es place (where_resolved es place is)
 where_resolved (archive_differs at its_key number ∷ es) place is = further _ es place (where_resolved es place is)
 where_resolved (drop_failed at refusal ∷ es) place is = further _ es place (where_resolved es place is)
+where_resolved (touch_failed at refusal ∷ es) place is = further _ es place (where_resolved es place is)
+where_resolved (discard_failed at ∷ es) place is = further _ es place (where_resolved es place is)
 
 -- What is known of a walk with a result: each known job is at a place of its own, and its outputs are known
 

@@ -21,10 +21,10 @@ use Rattle.collected_outputs.specs.Contents.{Heads}
 use Rattle.job_graph.specs.Jobs.{Job}
 use Rattle.job_graph.specs.Words.{Name, Fields, JobPlace}
 use Rattle.run_rules.specs.Scene.{Scene}
-use Rattle.run_rules.specs.Events.{Event, file_measured, job_staged, job_started, child_exited, job_succeeded, job_failed, job_failed_for_now, result_delivered, host_failed, collect_failed, row_found, no_row, find_failed, put_failed, job_repeated, Work, nothing_due, input_heads_due, start_due, scan_due, output_heads_due, Progress, Started, flight_after, in_flight, job_at, put_due, store_failed, store_due, files_fetched, archive_differs, drop_failed, drop_due, host_failed_late}
+use Rattle.run_rules.specs.Events.{Event, file_measured, job_staged, job_started, child_exited, job_succeeded, job_failed, job_failed_for_now, result_delivered, host_failed, collect_failed, row_found, no_row, find_failed, put_failed, job_repeated, Work, nothing_due, input_heads_due, start_due, scan_due, output_heads_due, Progress, Started, flight_after, in_flight, job_at, put_due, store_failed, store_due, files_fetched, archive_differs, drop_failed, touch_failed, discard_failed, drop_due, touch_due, discard_due, host_failed_late}
 use Rattle.run_rules.specs.StartsOn.{StartsOn, reads_on as starts_reading, has_launch, has_no_launch, has_no_contents}
 use Rattle.run_rules.specs.CollectsOn.{CollectsOn, reads_on as collects_reading, collects, collects_none}
-use Rattle.run_rules.specs.Steps.{Steps, measures_file, stages, reads_input, starts, exits_well, exits_for_now, exits_badly, scans, reads_output, delivers, loses_collect, call_fails, call, progress_with, finds_none, finds, finds_wrong, find_fails, puts, put_fails, stores, store_fails, fetches, fetches_other, drops, drop_fails, call_fails_late}
+use Rattle.run_rules.specs.Steps.{Steps, measures_file, stages, reads_input, starts, exits_well, exits_for_now, exits_badly, scans, reads_output, delivers, loses_collect, call_fails, call, progress_with, finds_none, finds, finds_wrong, find_fails, puts, put_fails, stores, store_fails, fetches, fetches_other, drops, drop_fails, touches, touch_fails, discards, discard_fails, call_fails_late, work_to_discard}
 use Rattle.plan_checker.specs.declared.plan.Mark.{Mark}
 use Rattle.run_rules.specs.Allowed.{Allowed, due_in}
 use Rattle.run_rules.specs.Plans.{PlansSoFar}
@@ -32,6 +32,7 @@ use Rattle.run_rules.specs.Run.{Goes, begins, asks}
 use Rattle.run_rules.specs.RanWell.{RanWell, HadRow}
 use Rattle.run_rules.specs.Keeps.{Keeps, keeps, keeps_none, differs, told_of, work_to_keep}
 use Rattle.job_rows.specs.declared.row.Row.{Row}
+use Rattle.run_rules.proofs.Discarding.{by_discards}
 
 pub none_in : {X : Type 0} (x : X) → Contains [] x → ⊥
 none_in x (k, within, is) = omega arith
@@ -128,6 +129,8 @@ module _ (codes : JobPlace → ExitCodes) where
     work_still (output_heads_due place millis found todo read) told = ran_still place told
     work_still (put_due place row) told = tt
     work_still (drop_due place its_key) told = tt
+    work_still (touch_due place its_key) told = tt
+    work_still (discard_due place its_key more) told = tt
     work_still (store_due place row) told = tt
 
     knows_still : (f : Progress) → Knows t f → Knows (t ++ p ∷ []) f
@@ -152,6 +155,8 @@ module _ (codes : JobPlace → ExitCodes) where
   scanned t s es (output_heads_due at millis found (name ∷ todo) read) place folder told is = absurd cc
   scanned t s es (put_due at row) place folder told is = absurd cc
   scanned t s es (drop_due at its_key) place folder told is = absurd cc
+  scanned t s es (touch_due at its_key) place folder told is = absurd cc
+  scanned t s es (discard_due at its_key more) place folder told is = absurd cc
   scanned t s es (store_due at row) place folder told is = absurd cc
 
   module _ (t : List Pair) (s : Scene) (f : Progress) (its_codes : (place : JobPlace) (job : Job) → job_at s f.events place ≡ Some job → job.tool.exit_codes ≡ codes place)
@@ -247,6 +252,9 @@ module _ (codes : JobPlace → ExitCodes) where
     kept_told true place row = tt
     kept_told false place row = tt
 
+    discards_told : (place : JobPlace) (keys : List (List ℕ)) → WorkTold t (work_to_discard place keys)
+    discards_told place keys = by_discards (WorkTold t) place keys tt (λ key more. tt)
+
     keeps_told : {keep : Bool} {place : JobPlace} {job : Job} {row : Option Row} {millis : ℕ} {found : List Found} {outputs : Fields} {work : Work} {more : List Event} →
         RanWell t place (codes place) → Keeps keep place job row millis found outputs work more → IsTold t flying work more
     keeps_told its (keeps_none once) = one_success _ _ nothing_due tt its
@@ -284,10 +292,14 @@ module _ (codes : JobPlace → ExitCodes) where
         collects_told (scanned t s f.events f.work place folder knows.work may) on
     step_told now may (reads_output place path limit bytes millis found name todo read job started work more is known was on) =
         collects_told (subst (WorkTold t) is knows.work) on
-    step_told now may (fetches place its_key number files found row its same) = quiet_one (files_fetched place number) refl refl
+    step_told now may (fetches place its_key number files found row its same) = quiet_after (files_fetched place number) (touch_due place row.key) tt refl refl
     step_told now may (fetches_other place its_key number files found row its other) = quiet_after (archive_differs place row.key number) (drop_due place row.key) tt refl refl
-    step_told now may (drops place its_key) = no_event nothing_due tt
-    step_told now may (drop_fails place its_key refusal) = quiet_one (drop_failed place refusal) refl refl
+    step_told now may (touches place its_key) = no_event nothing_due tt
+    step_told now may (touch_fails place its_key refusal) = quiet_one (touch_failed place refusal) refl refl
+    step_told now may (drops place its_key) = no_event (discard_due place its_key []) tt
+    step_told now may (drop_fails place its_key refusal) = quiet_after (drop_failed place refusal) (discard_due place its_key []) tt refl refl
+    step_told now may (discards place its_key more due) = no_event (work_to_discard place more) (discards_told place more)
+    step_told now may (discard_fails place its_key more due) = quiet_after (discard_failed place) (work_to_discard place more) (discards_told place more) refl refl
     step_told now may (delivers place plan) = quiet_one (result_delivered plan) refl refl
     step_told now may loses_collect = quiet_one collect_failed refl refl
     step_told now may (call_fails place request other unsettled) = quiet_one (host_failed place (fault_of request)) refl refl
@@ -302,7 +314,7 @@ module _ (codes : JobPlace → ExitCodes) where
     }
     step_told now may (finds_wrong place its_key row job known unsound) = quiet_one (find_failed place NotARecord) refl refl
     step_told now may (find_fails place its_key refusal) = quiet_one (find_failed place refusal) refl refl
-    step_told now may (puts place row) = no_event nothing_due tt
+    step_told now may (puts place row gone) = no_event (work_to_discard place gone) (discards_told place gone)
     step_told now may (put_fails place row refusal) = quiet_one (put_failed place refusal) refl refl
     step_told now may (stores place key folder files row due) = no_event _ tt
     step_told now may (store_fails place key folder files row due) = record {

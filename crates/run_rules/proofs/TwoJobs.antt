@@ -235,13 +235,13 @@ abbrev pub its_row : Row
 its_row = made_row its_key [] [] 1000 false
 
 abbrev is_put : JobPlace → Pair
-is_put place = command place (RecordRequest.Put its_row) RecordAnswer.Done
+is_put place = command place (RecordRequest.Put its_row) (RecordAnswer.Put [])
 
 either_ends : Leads s (at both) (ended 2 well ∷ scanned b ∷ is_put b ∷ ended 1 badly ∷ []) (at (both ++ came_well 2 b ++ came_badly 1 a))
 either_ends =
     follows (exits_well b (record { ticket = 2; code = well; millis = 1000 }) (job b) (1, lit< tt, refl) refl refl)
     (follows (scans b (codes "") 1000 [] (job b) (started_as 2) [] (put_due b its_row) (job_succeeded b [] ∷ []) refl refl refl (of_outputs [] refl none_asked) (collects [] _ _ (collects_nothing 2) (keeps refl tt)))
-    (follows (puts b its_row)
+    (follows (puts b its_row [])
     (follows (exits_badly a (record { ticket = 1; code = badly; millis = 1000 }) (job a) (0, lit< tt, refl) refl refl) stays)))
 
 -- First bytes are read one file after another, and the start or the outputs come with the last
@@ -265,7 +265,7 @@ it_is_collected_once_all_is_read : Leads s (record { work = output_heads_due a 1
 it_is_collected_once_all_is_read =
     follows (reads_output a (codes "w/j1/out/g") 65536 (codes "abc") 1000 [] (codes "g") [] [] (job a) (started_as 1) (put_due a its_row) (job_succeeded a [] ∷ []) refl refl refl
     (collects [] _ _ (collects_what_was_read 1 _) (keeps refl tt)))
-    (follows (puts a its_row) stays)
+    (follows (puts a its_row []) stays)
 
 -- what is asked is the first bytes of the next file, in the job's output folder
 the_next_is_asked : due s (record { work = output_heads_due a 1000 [] (codes "g" ∷ []) []; events = one ++ child_exited 1 ∷ [] })

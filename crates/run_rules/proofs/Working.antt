@@ -8,7 +8,7 @@ use Rattle.job_rows.specs.declared.row.Row.{Row}
 use Rattle.run_rules.specs.declared.outcome.Cause.{Cause}
 use Rattle.run_rules.specs.declared.setting.Options.{Options}
 use Rattle.run_rules.specs.CollectsOn.{CollectsOn, reads_on as collects_reading, collects, collects_none}
-use Rattle.run_rules.specs.Events.{Event, Started, Work, nothing_due, input_heads_due, start_due, scan_due, output_heads_due, put_due, store_due, drop_due, brings, job_failed, job_repeated, job_succeeded, row_differs}
+use Rattle.run_rules.specs.Events.{Event, Started, Work, nothing_due, input_heads_due, start_due, scan_due, output_heads_due, put_due, store_due, drop_due, touch_due, discard_due, brings, job_failed, job_repeated, job_succeeded, row_differs}
 use Rattle.run_rules.specs.Keeps.{Keeps, keeps, keeps_none, differs, told_of, work_to_keep}
 use Rattle.run_rules.specs.StartsOn.{StartsOn, reads_on as starts_reading, has_launch, has_no_launch, has_no_contents}
 use Rattle.run_rules.proofs.Flying.{is_grounded}
@@ -33,6 +33,8 @@ before_not_past place (scan_due q millis) is = absurd cc
 before_not_past place (output_heads_due q millis found todo read) is = absurd cc
 before_not_past place (put_due q row) is = refl
 before_not_past place (drop_due q key) is = refl
+before_not_past place (touch_due q key) is = refl
+before_not_past place (discard_due q key more) is = refl
 before_not_past place (store_due q row) is = refl
 
 -- what comes of a job that is staged

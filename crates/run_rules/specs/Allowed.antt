@@ -17,7 +17,7 @@ use Rattle.job_graph.specs.Made.{fields_moved}
 use Rattle.job_graph.specs.Words.{Name, Fields, JobPlace}
 use Rattle.run_rules.specs.Folders.{in_folder}
 use Rattle.run_rules.specs.Delivered.{any_file, source_place}
-use Rattle.run_rules.specs.Events.{Event, Work, nothing_due, input_heads_due, start_due, scan_due, output_heads_due, put_due, store_due, Progress, in_flight, is_at_hand, is_held, is_measured, is_looked_up, is_reusable, are_looked_up, are_measured, delivered_at, folder_at, unfolding_at, job_at, drop_due, is_numbered, row_at}
+use Rattle.run_rules.specs.Events.{Event, Work, nothing_due, input_heads_due, start_due, scan_due, output_heads_due, put_due, store_due, Progress, in_flight, is_at_hand, is_held, is_measured, is_looked_up, is_reusable, are_looked_up, are_measured, delivered_at, folder_at, unfolding_at, job_at, drop_due, touch_due, discard_due, is_numbered, row_at}
 use Rattle.run_rules.specs.End.{settled, IsDelivery, is_lost_collect}
 use Rattle.plan_checker.specs.declared.plan.Mark.{Mark}
 use Rattle.plan_checker.specs.declared.plan.Mark.TheVariants.{Load, Compute}
@@ -107,7 +107,7 @@ module _ (s : Scene) where
     pub delivery : IsDelivery s f.events outputs plan
 
   -- the request for the work that is due: first bytes are read, a job's launch is started, its output folder is listed, what was found there
-  -- is archived under its key, and its row is put
+  -- is archived under its key, and its row is put; a use of an archive is noted, or that it is gone, and what is of no use any more is discarded
   abbrev pub due_in : List Event → Work → Option Request
   due_in es nothing_due = None
   due_in es (input_heads_due place staged [] read) = None
@@ -119,6 +119,8 @@ module _ (s : Scene) where
       Some (Request.Host place (HostRequest.Head (path_in (folder_at s es place) name) (limit_of name)))
   due_in es (put_due place row) = Some (Request.Record place (RecordRequest.Put row))
   due_in es (drop_due place key) = Some (Request.Record place (RecordRequest.DropArchive key))
+  due_in es (touch_due place key) = Some (Request.Record place (RecordRequest.Touch key))
+  due_in es (discard_due place key more) = Some (Request.Host place (HostRequest.Discard key))
   due_in es (store_due place row) = Some (Request.Host place (HostRequest.Store row.key (folder_at s es place) row.files))
 
   abbrev pub due : Progress → Option Request

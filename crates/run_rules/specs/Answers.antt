@@ -16,7 +16,8 @@ use Rattle.job_graph.specs.Words.{JobPlace}
 -- an answer that a record can give to a command: a row that is found has the key that was asked for
 pub data CanTell : RecordRequest → RecordAnswer → Type 0 where
   is_found : (key : List ℕ) (row : Option Row) → IfSome row (λ found. found.key ≡ key) → CanTell (RecordRequest.Find key) (RecordAnswer.Found row)
-  is_put : (row : Row) → CanTell (RecordRequest.Put row) RecordAnswer.Done
+  is_put : (row : Row) (gone : List (List ℕ)) → CanTell (RecordRequest.Put row) (RecordAnswer.Put gone)
+  is_touched : (key : List ℕ) → CanTell (RecordRequest.Touch key) RecordAnswer.Done
   is_dropped : (key : List ℕ) → CanTell (RecordRequest.DropArchive key) RecordAnswer.Done
   is_refused : (request : RecordRequest) (refusal : RecordRefusal) → CanTell request (RecordAnswer.Refused refusal)
 

@@ -62,6 +62,10 @@ pub data Event : Type 0 where
   archive_differs : (place : JobPlace) (key : List ℕ) (number : ℕ) → Event
   -- the record refused to note that the archive of the job's row is gone
   drop_failed : (place : JobPlace) (refusal : RecordRefusal) → Event
+  -- the record refused to note that the archive of the job's row was used
+  touch_failed : (place : JobPlace) (refusal : RecordRefusal) → Event
+  -- an archive that is of no use any more could not be discarded, for the job at this place
+  discard_failed : (place : JobPlace) → Event
 
 -- the work that is due next
 pub data Work : Type 0 where
@@ -80,6 +84,10 @@ pub data Work : Type 0 where
   put_due : (place : JobPlace) (row : Row) → Work
   -- the archive of this key is dropped, since what was fetched of it for the job is not what its row has
   drop_due : (place : JobPlace) (key : List ℕ) → Work
+  -- the archive of this key is used, since what was fetched of it for the job is what its row has
+  touch_due : (place : JobPlace) (key : List ℕ) → Work
+  -- the archive of this key is discarded for the job, and then those of these: they are of no use any more
+  discard_due : (place : JobPlace) (key : List ℕ) (more : List (List ℕ)) → Work
   -- the files of the job are archived under the key of its row, which is put then
   store_due : (place : JobPlace) (row : Row) → Work
 

@@ -43,6 +43,11 @@ pub record DropRefused (t : List Pair) (place : JobPlace) (refusal : RecordRefus
   pub key : Name
   pub there : Contains t (command place (RecordRequest.DropArchive key) (RecordAnswer.Refused refusal))
 
+-- or to note that it was used
+pub record TouchRefused (t : List Pair) (place : JobPlace) (refusal : RecordRefusal) : Type 0 where
+  pub key : Name
+  pub there : Contains t (command place (RecordRequest.Touch key) (RecordAnswer.Refused refusal))
+
 -- The record refused so to look a job up, or, where the refusal is R1, it gave a row that isn't one of the tool of the job at that place, which was
 -- known by the first of what happened.
 pub data FindRefused (s : Scene) (t : List Pair) (es : List Event) (refusal : RecordRefusal) : Type 0 where
@@ -56,6 +61,8 @@ abbrev pub KindIsOf : List Pair → JobPlace → NoteKind → Type 0
 KindIsOf t place (NoteKind.Put refusal) = PutRefused t place refusal
 KindIsOf t place (NoteKind.Store fault) = CallFailed t place fault
 KindIsOf t place (NoteKind.Drop refusal) = DropRefused t place refusal
+KindIsOf t place (NoteKind.Touch refusal) = TouchRefused t place refusal
+KindIsOf t place (NoteKind.Discard fault) = CallFailed t place fault
 KindIsOf t place (NoteKind.Late fault) = CallFailed t place fault
 
 abbrev pub NoteIsOf : List Pair → Note → Type 0

@@ -16,17 +16,20 @@ Line = Entry
 abbrev pub command_of : RecordRequest → Command
 command_of (RecordRequest.Find key) = Command.Find
 command_of (RecordRequest.Put row) = Command.Put
+command_of (RecordRequest.Touch key) = Command.Touch
 command_of (RecordRequest.DropArchive key) = Command.DropArchive
 
 -- the key that a command is about
 abbrev pub key_of : RecordRequest → List ℕ
 key_of (RecordRequest.Find key) = key
 key_of (RecordRequest.Put row) = row.key
+key_of (RecordRequest.Touch key) = key
 key_of (RecordRequest.DropArchive key) = key
 
 -- done, or its refusal
 abbrev pub told_by : RecordAnswer → Result (Unit {0}) RecordRefusal
 told_by (RecordAnswer.Found row) = Ok tt
+told_by (RecordAnswer.Put gone) = Ok tt
 told_by RecordAnswer.Done = Ok tt
 told_by (RecordAnswer.Refused refusal) = Err refusal
 

@@ -20,7 +20,7 @@ use Rattle.job_graph.specs.Words.{Fields}
 use Rattle.cwl_value.specs.Erased.{erased}
 use Rattle.input_files.specs.Measured.{Measures}
 use Rattle.run_rules.specs.Delivered.{located, object_of}
-use Rattle.run_rules.specs.Events.{Event, put_failed, store_failed, Progress, measures, drop_failed, host_failed_late}
+use Rattle.run_rules.specs.Events.{Event, put_failed, store_failed, Progress, measures, drop_failed, host_failed_late, touch_failed, discard_failed}
 use Rattle.run_rules.specs.End.{End, succeeds_with, fails_permanently, fails_temporarily, beyond_limits, ended_by_host, mismatches, ended_by_record}
 use Rattle.run_rules.specs.Plans.{PlansSoFar}
 use Rattle.run_rules.specs.Recorded.{Line, lines_of}
@@ -54,6 +54,8 @@ outcome_of (ended_by_record refusal) = Err (RunFault.Record refusal)
 abbrev pub note_of : Event → Option Note
 note_of (put_failed place refusal) = Some (record { place = place; kind = NoteKind.Put refusal })
 note_of (drop_failed place refusal) = Some (record { place = place; kind = NoteKind.Drop refusal })
+note_of (touch_failed place refusal) = Some (record { place = place; kind = NoteKind.Touch refusal })
+note_of (discard_failed place) = Some (record { place = place; kind = NoteKind.Discard HostFault.Discard })
 note_of (store_failed place) = Some (record { place = place; kind = NoteKind.Store HostFault.Store })
 note_of (host_failed_late place fault) = Some (record { place = place; kind = NoteKind.Late fault })
 note_of _ = None

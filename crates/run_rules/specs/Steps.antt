@@ -30,7 +30,7 @@ use Rattle.run_rules.specs.declared.request.Request.{Request}
 use Rattle.collected_outputs.specs.Contents.{Heads}
 use Rattle.job_graph.specs.Jobs.{Job}
 use Rattle.job_graph.specs.Words.{Name, Fields, JobPlace}
-use Rattle.run_rules.specs.Events.{Event, file_measured, job_staged, job_started, child_exited, job_failed, job_failed_for_now, result_delivered, host_failed, collect_failed, row_found, no_row, find_failed, put_failed, store_failed, Work, nothing_due, input_heads_due, start_due, scan_due, output_heads_due, put_due, store_due, Progress, Started, in_flight, number_at, started_at, row_at, job_at, files_fetched, archive_differs, drop_failed, drop_due, host_failed_late}
+use Rattle.run_rules.specs.Events.{Event, file_measured, job_staged, job_started, child_exited, job_failed, job_failed_for_now, result_delivered, host_failed, collect_failed, row_found, no_row, find_failed, put_failed, store_failed, Work, nothing_due, input_heads_due, start_due, scan_due, output_heads_due, put_due, store_due, Progress, Started, in_flight, number_at, started_at, row_at, job_at, files_fetched, archive_differs, drop_failed, drop_due, host_failed_late, touch_failed, touch_due, discard_failed, discard_due}
 use Rattle.run_rules.specs.End.{End, settled}
 use Rattle.run_rules.specs.StartsOn.{StartsOn}
 use Rattle.run_rules.specs.CollectsOn.{CollectsOn}
@@ -48,7 +48,13 @@ command place request answer = record { request = Request.Record place request; 
 abbrev pub fails_apart : HostRequest → Bool
 fails_apart HostRequest.Collect = true
 fails_apart (HostRequest.Store key folder files) = true
+fails_apart (HostRequest.Discard key) = true
 fails_apart request = false
+
+-- the work that discards the archives of these keys, for the job at this place
+abbrev pub work_to_discard : JobPlace → List (List ℕ) → Work
+work_to_discard place [] = nothing_due
+work_to_discard place (key ∷ more) = discard_due place key more
 
 -- with these events more, and this work due
 abbrev pub progress_with : Progress → Work → List Event → Progress
@@ -98,19 +104,30 @@ module _ (s : Scene) where
         Steps f (command place (RecordRequest.Find its_key) (RecordAnswer.Found (Some row))) nothing_due (find_failed place NotARecord ∷ [])
     find_fails : (place : JobPlace) (its_key : Key) (refusal : RecordRefusal) →
         Steps f (command place (RecordRequest.Find its_key) (RecordAnswer.Refused refusal)) nothing_due (find_failed place refusal ∷ [])
-    -- the job's row is kept, or refused
-    puts : (place : JobPlace) (row : Row) → Steps f (command place (RecordRequest.Put row) RecordAnswer.Done) nothing_due []
+    -- the job's row is kept, and the archives that it takes away are discarded next; or it is refused
+    puts : (place : JobPlace) (row : Row) (gone : List (List ℕ)) →
+        Steps f (command place (RecordRequest.Put row) (RecordAnswer.Put gone)) (work_to_discard place gone) []
     put_fails : (place : JobPlace) (row : Row) (refusal : RecordRefusal) →
         Steps f (command place (RecordRequest.Put row) (RecordAnswer.Refused refusal)) nothing_due (put_failed place refusal ∷ [])
-    -- the files of a job's row are there, or what is there is not what the row has: its archive is dropped next
+    -- the files of a job's row are there, and its archive is used; or what is there is not what the row has, and its archive is dropped next
     fetches : (place : JobPlace) (its_key : List ℕ) (number : ℕ) (files found : List Found) (row : Row) → row_at f.events place ≡ Some row → AreTheSame row.files found →
-        Steps f (call place (HostRequest.Fetch its_key number files) (HostAnswer.Fetched found)) nothing_due (files_fetched place number ∷ [])
+        Steps f (call place (HostRequest.Fetch its_key number files) (HostAnswer.Fetched found)) (touch_due place row.key) (files_fetched place number ∷ [])
     fetches_other : (place : JobPlace) (its_key : List ℕ) (number : ℕ) (files found : List Found) (row : Row) → row_at f.events place ≡ Some row → (AreTheSame row.files found → ⊥) →
         Steps f (call place (HostRequest.Fetch its_key number files) (HostAnswer.Fetched found)) (drop_due place row.key) (archive_differs place row.key number ∷ [])
-    -- that is noted by the record, or refused
-    drops : (place : JobPlace) (its_key : List ℕ) → Steps f (command place (RecordRequest.DropArchive its_key) RecordAnswer.Done) nothing_due []
+    -- a use is noted by the record, or refused
+    touches : (place : JobPlace) (its_key : List ℕ) → Steps f (command place (RecordRequest.Touch its_key) RecordAnswer.Done) nothing_due []
+    touch_fails : (place : JobPlace) (its_key : List ℕ) (refusal : RecordRefusal) →
+        Steps f (command place (RecordRequest.Touch its_key) (RecordAnswer.Refused refusal)) nothing_due (touch_failed place refusal ∷ [])
+    -- that an archive is gone is noted by the record, or refused: it is discarded next
+    drops : (place : JobPlace) (its_key : List ℕ) →
+        Steps f (command place (RecordRequest.DropArchive its_key) RecordAnswer.Done) (discard_due place its_key []) []
     drop_fails : (place : JobPlace) (its_key : List ℕ) (refusal : RecordRefusal) →
-        Steps f (command place (RecordRequest.DropArchive its_key) (RecordAnswer.Refused refusal)) nothing_due (drop_failed place refusal ∷ [])
+        Steps f (command place (RecordRequest.DropArchive its_key) (RecordAnswer.Refused refusal)) (discard_due place its_key []) (drop_failed place refusal ∷ [])
+    -- an archive is discarded, or not: so are the others next
+    discards : (place : JobPlace) (its_key : List ℕ) (more : List (List ℕ)) → f.work ≡ discard_due place its_key more →
+        Steps f (call place (HostRequest.Discard its_key) HostAnswer.Done) (work_to_discard place more) []
+    discard_fails : (place : JobPlace) (its_key : List ℕ) (more : List (List ℕ)) → f.work ≡ discard_due place its_key more →
+        Steps f (call place (HostRequest.Discard its_key) (HostAnswer.Failed HostFault.Discard)) (work_to_discard place more) (discard_failed place ∷ [])
     delivers : (place : JobPlace) (plan : StagePlan) →
         Steps f (call place (HostRequest.Deliver plan) HostAnswer.Done) nothing_due (result_delivered plan ∷ [])
     -- a call fails, by its own fault, and so the end is settled; where it was before, the call is late

@@ -58,6 +58,10 @@ pub enum NoteKind {
     Put(RecordRefusal),
     /// The record refused to note that the archive of the job's row is gone.
     Drop(RecordRefusal),
+    /// The record refused to note that the archive of the job's row was used.
+    Touch(RecordRefusal),
+    /// The host could not discard an archive that is of no use any more.
+    Discard(HostFault),
     /// The host could not archive the job's files.
     Store(HostFault),
     /// Another call for the job failed once the end was settled, and no more was done for it.

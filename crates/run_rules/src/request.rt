@@ -1,6 +1,6 @@
 use cwl_value::JobPlace;
 use job_rows::{RecordRefusal, Row};
-use plain_data::Text;
+use plain_data::{Items, Text};
 use proc_host::{HostAnswer, HostRequest};
 
 /// A command to the record of jobs.
@@ -10,6 +10,8 @@ pub enum RecordRequest {
     Find(Text),
     /// This row is kept under its key.
     Put(Row),
+    /// The archive of this key was used.
+    Touch(Text),
     /// The archive of this key is gone.
     DropArchive(Text),
 }
@@ -19,6 +21,8 @@ pub enum RecordRequest {
 pub enum RecordAnswer {
     /// The row of the key that was looked up, if there is one.
     Found(Option<Row>),
+    /// The row was put, and these keys are without their archive by it.
+    Put(Items<Text>),
     /// It was done.
     Done,
     /// It was refused, and changed no row.

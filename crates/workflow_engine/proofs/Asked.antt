@@ -31,8 +31,10 @@ changes_none : (request : Request) (answer : Answer) → is_look request ≡ tru
 changes_none (Request.Record place (RecordRequest.Find key)) (Answer.Record (RecordAnswer.Found row)) look = refl
 changes_none (Request.Record place (RecordRequest.Find key)) (Answer.Record (RecordAnswer.Refused refusal)) look = refl
 changes_none (Request.Record place (RecordRequest.Find key)) (Answer.Record RecordAnswer.Done) look = refl
+changes_none (Request.Record place (RecordRequest.Find key)) (Answer.Record (RecordAnswer.Put gone)) look = refl
 changes_none (Request.Record place (RecordRequest.Find key)) (Answer.Host answer) look = refl
 changes_none (Request.Record place (RecordRequest.Put row)) answer look = absurd cc
+changes_none (Request.Record place (RecordRequest.Touch key)) answer look = absurd cc
 changes_none (Request.Record place (RecordRequest.DropArchive key)) answer look = absurd cc
 changes_none (Request.Host place request) answer look = refl
 changes_none Request.Finished answer look = refl

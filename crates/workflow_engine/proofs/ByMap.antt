@@ -4,11 +4,11 @@ use Rattle.std.specs.declared.alloc.AllocError.{AllocError}
 use Rattle.std.proofs.Common.{◌≡◌, ◌∙◌, ◌++◌, ◌∷◌, [], inl, inr, ℕ, zero, List, Option, Result, Ok, Err, refl, sym, ap, subst, arith}
 use Rattle.std.proofs.lemmas.List.Elements.{Contains-append_left, Contains-append_right, Contains-append_cases, filter_map-append}
 use Rattle.job_graph.specs.Words.{Fields, JobPlace}
-use Rattle.job_rows.specs.Map.{RowMap, Change, Finds, Puts, Drops, changed_by, changed_by_all}
+use Rattle.job_rows.specs.Map.{RowMap, Change, Finds, Puts, Touches, Drops, changed_by, changed_by_all}
 use Rattle.job_rows.specs.Storable.{IsKept}
 use Rattle.job_rows.specs.declared.refusal.RecordError.{RecordError}
 use Rattle.job_rows.specs.declared.refusal.RecordError.TheVariants as error
-use Rattle.job_rows.specs.declared.refusal.RecordRefusal.TheVariants.{NotARecord, WrongVersion, NoRow, Store}
+use Rattle.job_rows.specs.declared.refusal.RecordRefusal.TheVariants.{NotARecord, WrongVersion, NoRow, Store, UsesSpent}
 use Rattle.job_rows.specs.declared.row.Row.{Row}
 use Rattle.proc_host.specs.declared.call.HostRequest.{HostRequest}
 use Rattle.run_rules.specs.Steps.{command}
@@ -17,10 +17,10 @@ use Rattle.run_rules.specs.declared.request.Answer.{Answer}
 use Rattle.run_rules.specs.declared.request.Pair.{Pair}
 use Rattle.run_rules.specs.declared.request.RecordAnswer.{RecordAnswer}
 use Rattle.run_rules.specs.declared.request.RecordRequest.{RecordRequest}
-use Rattle.run_rules.specs.declared.request.RecordRequest.TheVariants.{Find, Put, DropArchive}
+use Rattle.run_rules.specs.declared.request.RecordRequest.TheVariants.{Find, Put, Touch, DropArchive}
 use Rattle.run_rules.specs.declared.request.Request.{Request}
 use Rattle.workflow_engine.specs.ByMap.{ArePairsBy, KeepsToMap, change_by, changes_of}
-use Rattle.workflow_engine.specs.Gains.{done_by, found_by}
+use Rattle.workflow_engine.specs.Gains.{done_by, found_by, kept_by}
 use Rattle.workflow_engine.specs.inner.Mapped.{ArePut, IsPut, IsToldBy, KeepsToMapIfRead, pairs_by}
 
 -- ---- one command
@@ -31,14 +31,25 @@ find_by Holds map key (Ok row) h = λ read. h
 find_by Holds map key (Err (error.Refused refusal)) h = λ read. h
 find_by Holds map key (Err error.OutOfMemory) h = h.1
 
-pub put_by : (Holds : RowMap → Type 0) (map : RowMap) (row : Row) (outcome : Result (Unit {0}) RecordError) → Puts Holds map row outcome →
-    IsToldBy map (Put row) (done_by outcome) Holds
-put_by Holds map row (Ok done) h = λ read. (tt, h read)
+pub put_by : (Holds : RowMap → Type 0) (map : RowMap) (row : Row) (outcome : Result (List (List ℕ)) RecordError) → Puts Holds map row outcome →
+    IsToldBy map (Put row) (kept_by outcome) Holds
+put_by Holds map row (Ok gone) h = λ read. ((h.0, h.1), h.2 read)
 put_by Holds map row (Err (error.Refused NotARecord)) h = absurd h
 put_by Holds map row (Err (error.Refused WrongVersion)) h = absurd h
 put_by Holds map row (Err (error.Refused NoRow)) h = absurd h
 put_by Holds map row (Err (error.Refused Store)) h = λ read. (tt, h)
+put_by Holds map row (Err (error.Refused UsesSpent)) h = λ read. ((h.0, h.1), h.2)
 put_by Holds map row (Err error.OutOfMemory) h = h
+
+pub touch_by : (Holds : RowMap → Type 0) (map : RowMap) (key : List ℕ) (outcome : Result (Unit {0}) RecordError) → Touches Holds map key outcome →
+    IsToldBy map (Touch key) (done_by outcome) Holds
+touch_by Holds map key (Ok done) h = λ read. ((h.0, h.1), h.2)
+touch_by Holds map key (Err (error.Refused NotARecord)) h = absurd h
+touch_by Holds map key (Err (error.Refused WrongVersion)) h = absurd h
+touch_by Holds map key (Err (error.Refused NoRow)) h = λ read. h
+touch_by Holds map key (Err (error.Refused Store)) h = λ read. (tt, h)
+touch_by Holds map key (Err (error.Refused UsesSpent)) h = λ read. ((h.0, h.1), h.2)
+touch_by Holds map key (Err error.OutOfMemory) h = h
 
 pub drop_by : (Holds : RowMap → Type 0) (map : RowMap) (key : List ℕ) (outcome : Result (Unit {0}) RecordError) → Drops Holds map key outcome →
     IsToldBy map (DropArchive key) (done_by outcome) Holds
@@ -47,6 +58,7 @@ drop_by Holds map key (Err (error.Refused NotARecord)) h = absurd h
 drop_by Holds map key (Err (error.Refused WrongVersion)) h = absurd h
 drop_by Holds map key (Err (error.Refused NoRow)) h = λ read. h
 drop_by Holds map key (Err (error.Refused Store)) h = λ read. (tt, h)
+drop_by Holds map key (Err (error.Refused UsesSpent)) h = absurd h
 drop_by Holds map key (Err error.OutOfMemory) h = h
 
 -- ---- one after another
@@ -123,6 +135,7 @@ put_more P t more all one two is = record {
 is_put : (P : Fields → Type 0) (place : JobPlace) (request : RecordRequest) (answer : RecordAnswer) → ArePut P (command place request answer ∷ []) → IsPut P request
 is_put P place (Find key) answer all = tt
 is_put P place (Put row) answer all = all.each place row answer (zero, omega arith, refl)
+is_put P place (Touch key) answer all = tt
 is_put P place (DropArchive key) answer all = tt
 
 pub put_by_record : (P : Fields → Type 0) (place : JobPlace) (request : RecordRequest) (answer : RecordAnswer) → IsPut P request →

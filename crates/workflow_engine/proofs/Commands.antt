@@ -6,19 +6,24 @@ use Rattle.job_rows.specs.declared.log.Command.{Command}
 use Rattle.job_rows.specs.declared.refusal.RecordError.{RecordError}
 use Rattle.job_rows.specs.declared.refusal.RecordError.TheVariants.{Refused, OutOfMemory}
 use Rattle.job_rows.specs.declared.row.Row.{Row}
-use Rattle.run_rules.specs.Answers.{CanTell, is_dropped, is_found, is_put, is_refused}
+use Rattle.run_rules.specs.Answers.{CanTell, is_dropped, is_found, is_put, is_refused, is_touched}
 use Rattle.run_rules.specs.declared.request.RecordRequest.{RecordRequest}
-use Rattle.workflow_engine.specs.Gains.{done_by, found_by, lines_by}
+use Rattle.workflow_engine.specs.Gains.{done_by, found_by, kept_by, lines_by}
 
 pub find_logged : (key : List ℕ) (outcome : Result (Option Row) RecordError) → entries_of Command.Find key (told_of outcome) ≡ lines_by (RecordRequest.Find key) (found_by outcome)
 find_logged key (Ok row) = refl
 find_logged key (Err (Refused refusal)) = refl
 find_logged key (Err OutOfMemory) = refl
 
-pub put_logged : (row : Row) (outcome : Result (Unit {0}) RecordError) → entries_of Command.Put row.key (told_of outcome) ≡ lines_by (RecordRequest.Put row) (done_by outcome)
-put_logged row (Ok done) = refl
+pub put_logged : (row : Row) (outcome : Result (List (List ℕ)) RecordError) → entries_of Command.Put row.key (told_of outcome) ≡ lines_by (RecordRequest.Put row) (kept_by outcome)
+put_logged row (Ok gone) = refl
 put_logged row (Err (Refused refusal)) = refl
 put_logged row (Err OutOfMemory) = refl
+
+pub touch_logged : (key : List ℕ) (outcome : Result (Unit {0}) RecordError) → entries_of Command.Touch key (told_of outcome) ≡ lines_by (RecordRequest.Touch key) (done_by outcome)
+touch_logged key (Ok done) = refl
+touch_logged key (Err (Refused refusal)) = refl
+touch_logged key (Err OutOfMemory) = refl
 
 pub drop_logged : (key : List ℕ) (outcome : Result (Unit {0}) RecordError) →
     entries_of Command.DropArchive key (told_of outcome) ≡ lines_by (RecordRequest.DropArchive key) (done_by outcome)
@@ -32,10 +37,15 @@ find_told key (Ok row) keyed = is_found key row keyed
 find_told key (Err (Refused refusal)) keyed = is_refused (RecordRequest.Find key) refusal
 find_told key (Err OutOfMemory) keyed = tt
 
-pub put_told : (row : Row) (outcome : Result (Unit {0}) RecordError) → IfOk (done_by outcome) (CanTell (RecordRequest.Put row))
-put_told row (Ok done) = is_put row
+pub put_told : (row : Row) (outcome : Result (List (List ℕ)) RecordError) → IfOk (kept_by outcome) (CanTell (RecordRequest.Put row))
+put_told row (Ok gone) = is_put row gone
 put_told row (Err (Refused refusal)) = is_refused (RecordRequest.Put row) refusal
 put_told row (Err OutOfMemory) = tt
+
+pub touch_told : (key : List ℕ) (outcome : Result (Unit {0}) RecordError) → IfOk (done_by outcome) (CanTell (RecordRequest.Touch key))
+touch_told key (Ok done) = is_touched key
+touch_told key (Err (Refused refusal)) = is_refused (RecordRequest.Touch key) refusal
+touch_told key (Err OutOfMemory) = tt
 
 pub drop_told : (key : List ℕ) (outcome : Result (Unit {0}) RecordError) → IfOk (done_by outcome) (CanTell (RecordRequest.DropArchive key))
 drop_told key (Ok done) = is_dropped key

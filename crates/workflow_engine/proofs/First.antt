@@ -16,7 +16,7 @@ use Rattle.job_graph.specs.Words.{Fields, Name}
 use Rattle.job_graph.specs.declared.fault.UnfoldError.{UnfoldError}
 use Rattle.plain_data.specs.ByName.{with_value}
 use Rattle.plan_checker.specs.Laws.{EachHasLeast}
-use Rattle.proc_host.specs.Answers.{CanAnswer, fault_of, has_ended as can_end, has_failed as can_fail, is_delivered as can_deliver, is_fetched as can_fetch, is_listed as can_list, is_measured as can_measure, is_read as can_read, is_staged as can_stage, is_started as can_start, is_stored as can_store}
+use Rattle.proc_host.specs.Answers.{CanAnswer, fault_of, has_ended as can_end, has_failed as can_fail, is_delivered as can_deliver, is_discarded as can_discard, is_fetched as can_fetch, is_listed as can_list, is_measured as can_measure, is_read as can_read, is_staged as can_stage, is_started as can_start, is_stored as can_store}
 use Rattle.proc_host.specs.declared.call.Entry.{Entry}
 use Rattle.proc_host.specs.declared.call.HostAnswer.{HostAnswer}
 use Rattle.proc_host.specs.declared.call.HostFault.{HostFault}
@@ -47,6 +47,7 @@ of_a_measure path is (can_list folder found paths) = absurd cc
 of_a_measure path is (can_read p limit bytes within) = absurd cc
 of_a_measure path is (can_fetch its_key number files found among) = absurd cc
 of_a_measure path is (can_store its_key folder files) = absurd cc
+of_a_measure path is (can_discard its_key) = absurd cc
 of_a_measure path is (can_deliver plan) = absurd cc
 of_a_measure path is (can_fail request) = ap fault_of is
 

@@ -17,7 +17,7 @@ use Rattle.plan_checker.specs.Graph.{IsGraph}
 use Rattle.proc_host.specs.declared.call.Entry.{Entry}
 use Rattle.plan_checker.specs.declared.graph.TheConstants.{MOST_VERTICES}
 use Rattle.run_core.proofs.KnownGraphs.{known_make_graphs}
-use Rattle.run_rules.specs.Answers.{CanTell, is_dropped, is_found, is_put, is_refused}
+use Rattle.run_rules.specs.Answers.{CanTell, is_dropped, is_found, is_put, is_touched, is_refused}
 use Rattle.run_rules.specs.Costs.{costs_at, graph_at}
 use Rattle.run_rules.specs.Events.{is_reusable, resolved, unfolding_at}
 use Rattle.run_rules.specs.Recorded.{Line, lines_of}
@@ -47,7 +47,8 @@ use Rattle.workflow_engine.proofs.Found.{another_on, jobs_same, memory_on, none_
 
 pub of_a_find : {request : RecordRequest} {answer : RecordAnswer} (its_key : List ℕ) → request ≡ RecordRequest.Find its_key → CanTell request answer → IsOfAFind answer
 of_a_find its_key is (is_found k row keyed) = tt
-of_a_find its_key is (is_put row) = absurd cc
+of_a_find its_key is (is_put row gone) = absurd cc
+of_a_find its_key is (is_touched k) = absurd cc
 of_a_find its_key is (is_dropped k) = absurd cc
 of_a_find its_key is (is_refused request refusal) = tt
 

@@ -67,6 +67,8 @@ module _ (t : List Pair) where
   kind_has_line : (note : Note) (kind : NoteKind) → KindIsOf t note.place kind → KindHasLine (lines_of t) kind
   kind_has_line note (NoteKind.Put refusal) its = record { key = its.row.key; there = in_filter_map _ t _ _ its.there refl }
   kind_has_line note (NoteKind.Drop refusal) its = record { key = its.key; there = in_filter_map _ t _ _ its.there refl }
+  kind_has_line note (NoteKind.Touch refusal) its = record { key = its.key; there = in_filter_map _ t _ _ its.there refl }
+  kind_has_line note (NoteKind.Discard fault) its = tt
   kind_has_line note (NoteKind.Store fault) its = tt
   kind_has_line note (NoteKind.Late fault) its = tt
 

@@ -66,7 +66,9 @@ PlanFaultHasLine lines (PlanFault.Failed place cause) = Unit {0}
 abbrev pub KindHasLine : List Line → NoteKind → Type 0
 KindHasLine lines (NoteKind.Put refusal) = HasRefused lines Command.Put refusal
 KindHasLine lines (NoteKind.Drop refusal) = HasRefused lines Command.DropArchive refusal
+KindHasLine lines (NoteKind.Touch refusal) = HasRefused lines Command.Touch refusal
 KindHasLine lines (NoteKind.Store fault) = Unit {0}
+KindHasLine lines (NoteKind.Discard fault) = Unit {0}
 KindHasLine lines (NoteKind.Late fault) = Unit {0}
 
 -- what a run reports of its record has its line: its fault, and each note

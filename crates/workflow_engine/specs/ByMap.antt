@@ -1,10 +1,10 @@
 -- What a record answers to a run is so of its map, and what the map is then.
-use Rattle.std.specs.Prelude.{◌≡◌, List, [], ◌∷◌, Option, Some, None, filter_map, Result, Ok, Err}
+use Rattle.std.specs.Prelude.{◌≡◌, false, List, [], ◌∷◌, Option, Some, None, filter_map, IsTrue, Result, Ok, Err}
 use Rattle.document_links.specs.declared.process.Process.{Process}
 use Rattle.job_graph.specs.Words.{Fields}
-use Rattle.job_rows.specs.Map.{RowMap, Kept, Change, sets, unarchives, changed_by_all, Finds}
+use Rattle.job_rows.specs.Map.{RowMap, Kept, Change, AreSpent, AreUnspent, Finds, changed_by_all, has_archive, keeps_archive, lost_by, sets, touches, unarchives}
 use Rattle.job_rows.specs.declared.refusal.RecordError.TheVariants as error
-use Rattle.job_rows.specs.declared.refusal.RecordRefusal.TheVariants.{NoRow, Store}
+use Rattle.job_rows.specs.declared.refusal.RecordRefusal.TheVariants.{NoRow, Store, UsesSpent}
 use Rattle.proc_host.specs.declared.call.Entry.{Entry}
 use Rattle.run_rules.specs.Recorded.{Line}
 use Rattle.run_rules.specs.declared.outcome.Report.{Report}
@@ -14,7 +14,7 @@ use Rattle.run_rules.specs.declared.request.Pair.{Pair}
 use Rattle.run_rules.specs.declared.request.RecordAnswer.{RecordAnswer}
 use Rattle.run_rules.specs.declared.request.RecordAnswer.TheVariants.{Found, Done, Refused}
 use Rattle.run_rules.specs.declared.request.RecordRequest.{RecordRequest}
-use Rattle.run_rules.specs.declared.request.RecordRequest.TheVariants.{Find, Put, DropArchive}
+use Rattle.run_rules.specs.declared.request.RecordRequest.TheVariants.{Find, Touch, DropArchive}
 use Rattle.run_rules.specs.declared.request.Request.{Request}
 use Rattle.run_rules.specs.declared.setting.Options.{Options}
 use Rattle.workflow_engine.specs.Gains.{RunsOn}
@@ -23,16 +23,22 @@ use Rattle.workflow_engine.specs.Gains.{RunsOn}
 abbrev pub IsAnswerBy : RowMap → RecordRequest → RecordAnswer → Type 0
 IsAnswerBy map (Find key) (Found row) = Finds map key (Ok row)
 IsAnswerBy map (Find key) (Refused refusal) = Finds map key (Err (error.Refused refusal))
-IsAnswerBy map (Put row) Done = Unit {0}
-IsAnswerBy map (Put row) (Refused Store) = Unit {0}
-IsAnswerBy map (DropArchive key) Done = (kept : Kept) × (map key ≡ Some kept)
-IsAnswerBy map (DropArchive key) (Refused NoRow) = map key ≡ None
+IsAnswerBy map (RecordRequest.Put row) (RecordAnswer.Put gone) = (gone ≡ lost_by row map.budget map.archives) × (IsTrue (keeps_archive row map.budget) → AreUnspent map.archives)
+IsAnswerBy map (RecordRequest.Put row) (Refused Store) = Unit {0}
+IsAnswerBy map (RecordRequest.Put row) (Refused UsesSpent) = IsTrue (keeps_archive row map.budget) × AreSpent map.archives
+IsAnswerBy map (Touch key) Done = IsTrue (has_archive key map.archives) × AreUnspent map.archives
+IsAnswerBy map (Touch key) (Refused NoRow) = has_archive key map.archives ≡ false
+IsAnswerBy map (Touch key) (Refused Store) = Unit {0}
+IsAnswerBy map (Touch key) (Refused UsesSpent) = IsTrue (has_archive key map.archives) × AreSpent map.archives
+IsAnswerBy map (DropArchive key) Done = (kept : Kept) × (map.rows key ≡ Some kept)
+IsAnswerBy map (DropArchive key) (Refused NoRow) = map.rows key ≡ None
 IsAnswerBy map (DropArchive key) (Refused Store) = Unit {0}
 IsAnswerBy map request answer = ⊥
 
 -- what a command changes, if it was done
 abbrev pub change_of : RecordRequest → RecordAnswer → Option Change
-change_of (Put row) Done = Some (sets row)
+change_of (RecordRequest.Put row) (RecordAnswer.Put gone) = Some (sets row)
+change_of (Touch key) Done = Some (touches key)
 change_of (DropArchive key) Done = Some (unarchives key)
 change_of request answer = None
 

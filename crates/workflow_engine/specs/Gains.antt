@@ -1,5 +1,5 @@
 -- What the logs of a host and of a record gain by a question, and by a whole run.
-use Rattle.std.specs.Prelude.{◌≡◌, List, [], ◌∷◌, ◌++◌, Option, Some, None, Result, Ok, Err, alloc_error}
+use Rattle.std.specs.Prelude.{◌≡◌, ℕ, List, [], ◌∷◌, ◌++◌, Option, Some, None, Result, Ok, Err, alloc_error}
 use Rattle.job_rows.specs.declared.refusal.RecordError.{RecordError}
 use Rattle.job_rows.specs.declared.refusal.RecordError.TheVariants.{Refused, OutOfMemory}
 use Rattle.job_rows.specs.declared.row.Row.{Row}
@@ -38,6 +38,10 @@ refused_by OutOfMemory = Err alloc_error
 abbrev pub found_by : Result (Option Row) RecordError → Result RecordAnswer AllocError
 found_by (Ok row) = Ok (RecordAnswer.Found row)
 found_by (Err error) = refused_by error
+
+abbrev pub kept_by : Result (List (List ℕ)) RecordError → Result RecordAnswer AllocError
+kept_by (Ok gone) = Ok (RecordAnswer.Put gone)
+kept_by (Err error) = refused_by error
 
 abbrev pub done_by : Result (Unit {0}) RecordError → Result RecordAnswer AllocError
 done_by (Ok done) = Ok RecordAnswer.Done

@@ -40,6 +40,7 @@ pub(crate) fn ask<H: Host>(
         HostRequest::Fetch(key, number, files) => fetched(host.fetch(key, *number, files)),
         HostRequest::Store(key, folder, files) => done(host.store(key, folder, files)),
         HostRequest::Deliver(plan) => done(host.deliver(plan)),
+        HostRequest::Discard(key) => done(host.discard(key)),
     }
 }
 

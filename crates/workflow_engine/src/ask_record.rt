@@ -3,11 +3,12 @@ ghost use Rattle.std.specs.Prelude.{◌≡◌, ◌++◌, IfOk};
 ghost use Rattle.run_rules.specs.Answers.{CanTell};
 ghost use Rattle.job_reuse.specs.Form.{AreInForm};
 ghost use Rattle.job_rows.specs.Map.{RowMap};
-ghost use Rattle.workflow_engine.specs.Gains.{done_by, found_by, refused_by, lines_by};
+ghost use Rattle.workflow_engine.specs.Gains.{done_by, found_by, kept_by, lines_by, refused_by};
 ghost use Rattle.workflow_engine.specs.inner.Mapped.{IsPut, IsToldBy};
 
 use job_reuse::in_form;
 use job_rows::{Record, RecordError, Row};
+use plain_data::{Items, Text};
 use run_core::{RecordAnswer, RecordRequest};
 use std::alloc::AllocError;
 
@@ -28,8 +29,9 @@ pub(crate) fn ask_record<R: Record>(
         RecordRequest::Put(row) => {
             // What the types of values say reaches contracts once the values are looked at.
             in_form(&row.outputs);
-            done(rows.put(row))
+            kept(rows.put(row))
         }
+        RecordRequest::Touch(key) => done(rows.touch(key)),
         RecordRequest::DropArchive(key) => done(rows.drop_archive(key)),
     }
 }
@@ -39,6 +41,15 @@ fn found(outcome: Result<Option<Row>, RecordError>) -> Result<RecordAnswer, Allo
 {
     match outcome {
         Ok(row) => Ok(RecordAnswer::Found(row)),
+        Err(error) => refused(error),
+    }
+}
+
+fn kept(outcome: Result<Items<Text>, RecordError>) -> Result<RecordAnswer, AllocError>
+    ensures { result ≡ kept_by outcome }
+{
+    match outcome {
+        Ok(gone) => Ok(RecordAnswer::Put(gone)),
         Err(error) => refused(error),
     }
 }

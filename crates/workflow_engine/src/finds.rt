@@ -131,7 +131,7 @@ fn row_of(alloc: Global, tool: &Tool, answer: RecordAnswer) -> Result<Option<Row
             Some(row) => if_sound(alloc, tool, row),
         },
         RecordAnswer::Refused(refusal) => Err(PlanFault::Run(RunFault::Record(refusal))),
-        RecordAnswer::Done => unreachable!(),
+        RecordAnswer::Put(_) | RecordAnswer::Done => unreachable!(),
     }
 }
 

@@ -23,7 +23,7 @@ use Rattle.run_core.specs.declared.state.Turn.{Turn}
 use Rattle.run_core.specs.inner.Inside.{Goes, Stands, off_run, on_run, setting_in}
 use Rattle.run_core.specs.inner.Course.{Past, past_of}
 use Rattle.run_core.specs.inner.Turn.{IsEnded}
-use Rattle.run_core.specs.inner.Standing.{IsAt, IsLostAt, Runs, collecting, delivering, draining, ended, lost, measuring, staging, working, finding, putting, storing, dropping, fetching}
+use Rattle.run_core.specs.inner.Standing.{IsAt, IsLostAt, Runs, collecting, delivering, draining, ended, lost, measuring, staging, working, finding, putting, storing, discarding, dropping, fetching, touching}
 use Rattle.run_rules.specs.declared.outcome.Note.{Note}
 use Rattle.run_rules.specs.declared.outcome.PlanNote.{PlanNote}
 
@@ -48,7 +48,9 @@ module _ (s : Scene) (f : Progress) (marks : List Mark) (course : Course) where
   ended_at result (finding n job r next) phase = absurd cc
   ended_at result (putting n job row r it due) phase = absurd cc
   ended_at result (fetching n job row r is_next) phase = absurd cc
-  ended_at result (dropping n job its_key r it due) phase = absurd cc
+  ended_at result (touching n job its_key r it due) phase = absurd cc
+  ended_at result (dropping n job its_key r it due own) phase = absurd cc
+  ended_at result (discarding n job its_key left r it due) phase = absurd cc
   ended_at result (storing n job row r it due) phase = absurd cc
   ended_at result (staging n job plan r st) phase = absurd cc
   ended_at result (working n job call phase r w) is = absurd cc
@@ -61,7 +63,9 @@ module _ (s : Scene) (f : Progress) (marks : List Mark) (course : Course) where
   asks_no_more (finding n job r next) asks = absurd cc
   asks_no_more (putting n job row r it due) asks = absurd cc
   asks_no_more (fetching n job row r is_next) asks = absurd cc
-  asks_no_more (dropping n job its_key r it due) asks = absurd cc
+  asks_no_more (touching n job its_key r it due) asks = absurd cc
+  asks_no_more (dropping n job its_key r it due own) asks = absurd cc
+  asks_no_more (discarding n job its_key left r it due) asks = absurd cc
   asks_no_more (storing n job row r it due) asks = absurd cc
   asks_no_more (staging n job plan r st) asks = absurd cc
   asks_no_more (working n job call phase r w) asks = absurd cc

@@ -17,7 +17,7 @@ use Rattle.run_rules.specs.declared.outcome.Cause.{Cause}
 use Rattle.run_rules.specs.declared.outcome.Outcome.{Outcome}
 use Rattle.run_rules.specs.declared.outcome.RunFault.{RunFault}
 use Rattle.run_rules.specs.End.{End, beyond_limits, ended_by_host, fails_permanently, fault_end, is_lost_collect, settled_by, ended_by_record, mismatches}
-use Rattle.run_rules.specs.Events.{Event, child_exited, delivered_at, delivered_if, in_flight, job_at, job_failed, job_failed_for_now, job_staged, job_started, host_failed, measures, number_at, resolved, started_at, unfolding_at, find_failed, is_reusable, looks_up, no_row, started_if, Started, row_differs, put_failed, row_at, job_repeated, store_failed, archive_differs, drop_failed, files_fetched, is_at_hand, is_fetched, is_lost, loses, host_failed_late}
+use Rattle.run_rules.specs.Events.{Event, child_exited, delivered_at, delivered_if, in_flight, job_at, job_failed, job_failed_for_now, job_staged, job_started, host_failed, measures, number_at, resolved, started_at, unfolding_at, find_failed, is_reusable, looks_up, no_row, started_if, Started, row_differs, put_failed, row_at, job_repeated, store_failed, archive_differs, discard_failed, drop_failed, touch_failed, files_fetched, is_at_hand, is_fetched, is_lost, loses, host_failed_late}
 use Rattle.run_rules.specs.Reports.{outcome_of, note_of, notes_of}
 use Rattle.run_rules.specs.Scene.{Scene}
 use Rattle.run_rules.proofs.events.Known.{found_still, front_itself, is_measure, measured_still, measures_stay, resolved_stay, teaches}
@@ -33,7 +33,7 @@ use Rattle.run_core.specs.declared.state.Course.{Course}
 use Rattle.run_core.specs.declared.state.Flight.{Flight}
 use Rattle.run_core.specs.declared.state.Kept.{Kept}
 use Rattle.plan_keeper.specs.declared.planned.Planned.{Planned}
-use Rattle.run_core.specs.inner.Course.{GivesUp, Past, TakesOut, again, known_in, past_of, place_at, too_often, with_end, with_giving_up, with_staging, with_start, with_answer, with_hand, failure_by, failure_in, put_note, with_note, store_note, drop_note, is_lost_in, key_in, with_load, with_loss, late_note, with_plan}
+use Rattle.run_core.specs.inner.Course.{GivesUp, Past, TakesOut, again, known_in, past_of, place_at, too_often, with_end, with_giving_up, with_staging, with_start, with_answer, with_hand, failure_by, failure_in, put_note, with_note, store_note, discard_note, drop_note, touch_note, is_lost_in, key_in, with_load, with_loss, late_note, with_plan}
 use Rattle.run_core.specs.inner.Due.{IsKept}
 use Rattle.run_core.specs.inner.Keeps.{AreTriedOnce, Keeps, Reflects, course_of, numbers_of, AreFound}
 use Rattle.run_core.specs.inner.Knows.{IsKnown, IsUnfolded, Learns, end_by, fault_of}
@@ -143,6 +143,8 @@ plain_tells_nothing _ plain = absurd cc
 plain_notes_nothing : (e : Event) → is_plain e ≡ true → note_of e ≡ None
 plain_notes_nothing (put_failed place refusal) plain = absurd cc
 plain_notes_nothing (drop_failed place refusal) plain = absurd cc
+plain_notes_nothing (touch_failed place refusal) plain = absurd cc
+plain_notes_nothing (discard_failed place) plain = absurd cc
 plain_notes_nothing (store_failed place) plain = absurd cc
 plain_notes_nothing (host_failed_late place fault) plain = absurd cc
 plain_notes_nothing _ plain = refl
@@ -470,6 +472,22 @@ module _ (s : Scene) where
       new.known ≡ old.known → Reflects s es old None → Reflects s (es ++ drop_failed place refusal ∷ []) new None
   drop_failed_reflects es old new place refusal past known r =
       noted_reflects es old new None (drop_failed place refusal) (drop_note place refusal)
+      (record { aside = refl; quiet = refl; teaches = refl; measures = refl; collects = refl; delivers = refl; started = λ last at. refl; answers = refl; notes = refl })
+      past known r r.keeps
+
+  -- or that one was used
+  pub touch_failed_reflects : (es : List Event) (old new : Course) (place : JobPlace) (refusal : RecordRefusal) → past_of new ≡ with_note (touch_note place refusal) (past_of old) →
+      new.known ≡ old.known → Reflects s es old None → Reflects s (es ++ touch_failed place refusal ∷ []) new None
+  touch_failed_reflects es old new place refusal past known r =
+      noted_reflects es old new None (touch_failed place refusal) (touch_note place refusal)
+      (record { aside = refl; quiet = refl; teaches = refl; measures = refl; collects = refl; delivers = refl; started = λ last at. refl; answers = refl; notes = refl })
+      past known r r.keeps
+
+  -- an archive could not be discarded
+  pub discard_failed_reflects : (es : List Event) (old new : Course) (place : JobPlace) → past_of new ≡ with_note (discard_note place HostFault.Discard) (past_of old) →
+      new.known ≡ old.known → Reflects s es old None → Reflects s (es ++ discard_failed place ∷ []) new None
+  discard_failed_reflects es old new place past known r =
+      noted_reflects es old new None (discard_failed place) (discard_note place HostFault.Discard)
       (record { aside = refl; quiet = refl; teaches = refl; measures = refl; collects = refl; delivers = refl; started = λ last at. refl; answers = refl; notes = refl })
       past known r r.keeps
 

@@ -111,6 +111,7 @@ rows_still : (n : ℕ) (answer : RecordAnswer) (rows : List (Option Row)) (m : �
 rows_still n (RecordAnswer.Found (Some new)) rows m row few is =
     let below : m < length rows = row_below rows m row is in set_elsewhere rows n m new (λ same. omega (arith, same, below, few)) ∙ is
 rows_still n (RecordAnswer.Found None) rows m row few is = is
+rows_still n (RecordAnswer.Put gone) rows m row few is = is
 rows_still n RecordAnswer.Done rows m row few is = is
 rows_still n (RecordAnswer.Refused refusal) rows m row few is = is
 

@@ -16,7 +16,7 @@ use Rattle.run_rules.specs.declared.request.Pair.{Pair}
 use Rattle.run_rules.specs.declared.request.Request.{Request}
 use Rattle.run_rules.specs.declared.setting.Options.{Options}
 use Rattle.run_rules.specs.Allowed.{Allowed, MayCollect, MayMeasure}
-use Rattle.run_rules.specs.Events.{Event, Progress, in_flight, input_heads_due, output_heads_due, put_due, store_due, folder_at, drop_due}
+use Rattle.run_rules.specs.Events.{Event, Progress, in_flight, input_heads_due, output_heads_due, put_due, store_due, folder_at, discard_due, drop_due, touch_due}
 use Rattle.run_rules.specs.Folders.{out_folder}
 use Rattle.run_rules.specs.Scene.{Scene}
 use Rattle.run_rules.specs.Plans.{InForce, number_of, PlansSoFar, no_plans}
@@ -46,7 +46,7 @@ use Rattle.run_core.specs.inner.Due.{FitsCall, call_for, work_of}
 use Rattle.run_core.specs.inner.Follows.{AsksIn, AsksOf}
 use Rattle.run_core.specs.inner.Keeps.{Reflects, course_of}
 use Rattle.run_core.specs.Order.{IsFirst}
-use Rattle.run_core.specs.inner.Standing.{IsAt, IsStaging, Runs, collecting, delivering, ended, measuring, staging, working, finding, putting, storing, FetchesNext, FindsNext, dropping, fetching}
+use Rattle.run_core.specs.inner.Standing.{IsAt, IsStaging, Runs, collecting, delivering, ended, measuring, staging, working, finding, putting, storing, FetchesNext, FindsNext, discarding, dropping, touching, fetching}
 use Rattle.run_core.specs.inner.Marks.{is_load}
 use Rattle.plan_checker.specs.Plan.{mark}
 use Rattle.run_core.proofs.events.Families.{ready_if}
@@ -141,7 +141,9 @@ module _ (s : Scene) (f : Progress) (marks : List Mark) (course : Course) where
   fits_at asks (finding n job r next) = lists_fit s f.events course None r
   fits_at asks (putting n job row r it due) = lists_fit s f.events course None r
   fits_at asks (fetching n job row r next) = lists_fit s f.events course None r
-  fits_at asks (dropping n job its_key r it due) = lists_fit s f.events course None r
+  fits_at asks (touching n job its_key r it due) = lists_fit s f.events course None r
+  fits_at asks (dropping n job its_key r it due own) = lists_fit s f.events course None r
+  fits_at asks (discarding n job its_key left r it due) = lists_fit s f.events course None r
   fits_at asks (storing n job row r it due) = lists_fit s f.events course None r
   fits_at asks (staging n job plan r st) = lists_fit s f.events course None r
   fits_at asks (working n job call phase r w) = lists_fit s f.events course (Some n) r
@@ -154,7 +156,9 @@ module _ (s : Scene) (f : Progress) (marks : List Mark) (course : Course) where
   asks_at (finding n job r next) = next.it.within
   asks_at (putting n job row r it due) = it.within
   asks_at (fetching n job row r next) = next.it.within
-  asks_at (dropping n job its_key r it due) = it.within
+  asks_at (touching n job its_key r it due) = it.within
+  asks_at (dropping n job its_key r it due own) = it.within
+  asks_at (discarding n job its_key left r it due) = it.within
   asks_at (storing n job row r it due) = it.within
   asks_at (staging n job plan r st) = record { known = st.it.within }
   asks_at (working n job call phase r w) =
@@ -181,7 +185,10 @@ module _ (s : Scene) (f : Progress) (marks : List Mark) (course : Course) where
   collects_at place (putting n job row r it due) asks =
       let never : Request.Record job.place (RecordRequest.Put row) ≡ Request.Host place HostRequest.Collect = asks in absurd cc
   collects_at place (fetching n job row r next) asks = absurd (not_waiting (HostRequest.Fetch row.key (course.folders + 1) row.files) place job.place (λ same. cc) asks)
-  collects_at place (dropping n job its_key r it due) asks =
+  collects_at place (touching n job its_key r it due) asks =
+      let never : Request.Record job.place (RecordRequest.Touch its_key) ≡ Request.Host place HostRequest.Collect = asks in absurd cc
+  collects_at place (discarding n job its_key left r it due) asks = absurd (not_waiting (HostRequest.Discard its_key) place job.place (λ same. cc) asks)
+  collects_at place (dropping n job its_key r it due own) asks =
       let never : Request.Record job.place (RecordRequest.DropArchive its_key) ≡ Request.Host place HostRequest.Collect = asks in absurd cc
   collects_at place (storing n job row r it due) asks = absurd (not_waiting (HostRequest.Store row.key (folder_at s f.events job.place) row.files) place job.place (λ same. cc) asks)
   collects_at place (staging n job plan r st) asks = absurd (not_waiting (HostRequest.Stage plan (course.folders + 1)) place job.place (λ same. cc) asks)
@@ -199,7 +206,11 @@ module _ (s : Scene) (given : Given) (its : IsOf s given) (laws : Laws s) where
   allows_at t f marks course asks (finding n job r next) = next.may
   allows_at t f marks course asks (putting n job row r it due) = due_when s f marks (put_due job.place row) (Request.Record job.place (RecordRequest.Put row)) due refl
   allows_at t f marks course asks (fetching n job row r next) = next.may
-  allows_at t f marks course asks (dropping n job its_key r it due) =
+  allows_at t f marks course asks (touching n job its_key r it due) =
+      due_when s f marks (touch_due job.place its_key) (Request.Record job.place (RecordRequest.Touch its_key)) due refl
+  allows_at t f marks course asks (discarding n job its_key left r it due) =
+      due_when s f marks (discard_due job.place its_key (reverse left)) (Request.Host job.place (HostRequest.Discard its_key)) due refl
+  allows_at t f marks course asks (dropping n job its_key r it due own) =
       due_when s f marks (drop_due job.place its_key) (Request.Record job.place (RecordRequest.DropArchive its_key)) due refl
   allows_at t f marks course asks (storing n job row r it due) =
       due_when s f marks (store_due job.place row) (Request.Host job.place (HostRequest.Store row.key (folder_at s f.events job.place) row.files)) due refl
@@ -279,7 +290,9 @@ module _ (s : Scene) (given : Given) (its : IsOf s given) (laws : Laws s) where
   first_at t f plans goes course asks (putting n job row r it due) = tt
   first_at t f plans goes course asks (storing n job row r it due) = tt
   first_at t f plans goes course asks (fetching n job row r next) = first_fetched t f plans goes course n job row r next
-  first_at t f plans goes course asks (dropping n job its_key r it due) = tt
+  first_at t f plans goes course asks (touching n job its_key r it due) = tt
+  first_at t f plans goes course asks (dropping n job its_key r it due own) = tt
+  first_at t f plans goes course asks (discarding n job its_key left r it due) = tt
   first_at t f plans goes course asks (staging n job plan r st) = first_staged f plans.marks course n job plan r st
   first_at t f plans goes course asks (working n job call phase r w) =
       first_call f plans.marks job.place call (for_job s.options (state_at course.jobs n).folder [] call phase w.calls.due)

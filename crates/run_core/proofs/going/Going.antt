@@ -1,7 +1,7 @@
 -- A run goes on with each answer to what is asked.
 use Rattle.std.specs.Prelude.{◌≤◌}
 use Rattle.std.proofs.Common.{◌≡◌, ◌+◌, ℕ, List, [], ◌∷◌, ◌++◌, ◌∙◌, Some, None, length, length-append, refl, sym, ap, subst}
-use Rattle.proc_host.specs.Answers.{CanAnswer, is_measured, is_staged, is_started, has_ended, is_listed, is_read, is_delivered, has_failed, is_fetched, is_stored}
+use Rattle.proc_host.specs.Answers.{CanAnswer, is_measured, is_staged, is_started, has_ended, is_listed, is_read, is_delivered, is_discarded, has_failed, is_fetched, is_stored}
 use Rattle.proc_host.specs.declared.call.HostAnswer.{HostAnswer}
 use Rattle.proc_host.specs.declared.call.HostFault.{HostFault}
 use Rattle.proc_host.specs.declared.call.HostRequest.{HostRequest}
@@ -20,8 +20,9 @@ use Rattle.run_rules.specs.Plans.{InForce, PlansSoFar}
 use Rattle.run_rules.specs.Run.{Goes}
 use Rattle.run_rules.specs.Scene.{Scene}
 use Rattle.job_rows.specs.declared.row.Row.{Row}
-use Rattle.run_core.proofs.job_steps.Fetched.{drop_goes_on, fetch_goes_on}
-use Rattle.run_core.proofs.job_steps.Found.{answer_goes_on, put_goes_on}
+use Rattle.run_core.proofs.job_steps.Discarded.{discard_goes_on, put_goes_on}
+use Rattle.run_core.proofs.job_steps.Fetched.{drop_goes_on, fetch_goes_on, touch_goes_on}
+use Rattle.run_core.proofs.job_steps.Found.{answer_goes_on}
 use Rattle.run_core.specs.declared.state.Course.{Course}
 use Rattle.run_core.specs.declared.state.Given.{Given}
 use Rattle.run_core.specs.declared.state.JobPhase.{JobPhase}
@@ -33,7 +34,7 @@ use Rattle.run_core.specs.inner.Follows.{FollowsFrom}
 use Rattle.run_core.specs.inner.Keeps.{Reflects}
 use Rattle.run_core.specs.inner.Measured.{IsMeasuring}
 use Rattle.run_core.specs.inner.Measures.{Begins}
-use Rattle.run_core.specs.inner.Standing.{IsAt, IsStaging, IsWorking, KeepsPlans, Runs, collecting, delivering, ended, measuring, staging, working, finding, putting, storing, FetchesNext, dropping, fetching}
+use Rattle.run_core.specs.inner.Standing.{IsAt, IsStaging, IsWorking, KeepsPlans, Runs, collecting, delivering, ended, measuring, staging, working, finding, putting, storing, FetchesNext, discarding, dropping, fetching, touching}
 use Rattle.run_core.specs.inner.Turn.{collects, waits, works}
 use Rattle.run_core.proofs.events.Reflecting.{Laws, staged_there}
 use Rattle.run_core.proofs.going.Delivered.{delivery_goes_on}
@@ -89,7 +90,7 @@ module _ (s : Scene) (given : Given) (same : given.options ≡ s.options) (rated
         {answer : HostAnswer} → CanAnswer old.tickets.items (HostRequest.Fetch row.key (old.folders + 1) row.files) answer →
         FollowsFrom given old (record { asks = Request.Host job.place (HostRequest.Fetch row.key (old.folders + 1) row.files); phase = Phase.Fetching n }) (Answer.Host answer) turn new →
         GoesOnWith job.place (HostRequest.Fetch row.key (old.folders + 1) row.files) answer
-    fetch_by n job row r next (is_fetched its_key number files found among) follows = fetch_goes_on s given t next_picks f plans goes old n job row planned r next found turn new follows
+    fetch_by n job row r next (is_fetched its_key number files found among) follows = fetch_goes_on s t f plans goes old n job row planned r next found turn new follows
     fetch_by n job row r next (has_failed request) follows =
         fault_goes_on s given t next_picks f plans goes old job.place (HostRequest.Fetch row.key (old.folders + 1) row.files) next.may refl turn new follows planned None r
 
@@ -113,6 +114,8 @@ module _ (s : Scene) (given : Given) (same : given.options ≡ s.options) (rated
         absurd (for_job s.options (state_at old.jobs n).folder [] (HostRequest.Store key folder files) phase w.calls.due)
     work_by n job phase (is_delivered plan) r w follows =
         absurd (for_job s.options (state_at old.jobs n).folder [] (HostRequest.Deliver plan) phase w.calls.due)
+    work_by n job phase (is_discarded key) r w follows =
+        absurd (for_job s.options (state_at old.jobs n).folder [] (HostRequest.Discard key) phase w.calls.due)
     work_by n job phase (has_failed request) r w follows =
         fault_goes_on s given t next_picks f plans goes old job.place request
         (working_allowed s f plans.marks old n job request phase (staged_there s f.events old n job w.it r) w)
@@ -138,8 +141,12 @@ module _ (s : Scene) (given : Given) (same : given.options ≡ s.options) (rated
     answered (finding n job r next) (by_record place request answer can) follows = answer_goes_on s given laws t next_picks f plans goes old n job planned r next answer turn new follows
     answered (putting n job row r it due) (by_record place request answer can) follows = put_goes_on s given t next_picks f plans goes old n job row planned r it due answer can turn new follows
     answered (fetching n job row r next) (by_host place request answer can) follows = fetch_by n job row r next can follows
-    answered (dropping n job its_key r it due) (by_record place request answer can) follows =
-        drop_goes_on s given t next_picks f plans goes old n job its_key planned r it due answer can turn new follows
+    answered (touching n job its_key r it due) (by_record place request answer can) follows =
+        touch_goes_on s given t next_picks f plans goes old n job its_key planned r it due answer can turn new follows
+    answered (dropping n job its_key r it due own) (by_record place request answer can) follows =
+        drop_goes_on s t f plans goes old n job its_key planned r it due own answer can turn new follows
+    answered (discarding n job its_key left r it due) (by_host place request answer can) follows =
+        discard_goes_on s given t next_picks f plans goes old n job its_key left planned r it due can turn new follows
     answered (staging n job plan r st) (by_host place request answer can) follows = stage_by n job plan r st can follows
     answered (storing n job row r it due) (by_host place request answer can) follows = store_goes_on s given t f plans goes old n job row planned r it due can turn new follows
     answered (working n job call phase r w) (by_host place request answer can) follows = work_by n job phase can r w follows

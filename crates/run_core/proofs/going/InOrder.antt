@@ -64,9 +64,11 @@ module _ (s : Scene) (f : Progress) (marks : List Mark) where
   no_earlier rule are (Request.Host place (HostRequest.Head path limit)) may = at_least rule 2 (λ past. are.work past (Request.Host place (HostRequest.Head path limit)) may)
   no_earlier rule are (Request.Host place (HostRequest.Store its_key folder files)) may =
       at_least rule 2 (λ past. are.work past (Request.Host place (HostRequest.Store its_key folder files)) may)
+  no_earlier rule are (Request.Host place (HostRequest.Discard its_key)) may = at_least rule 2 (λ past. are.work past (Request.Host place (HostRequest.Discard its_key)) may)
   no_earlier rule are (Request.Record place (RecordRequest.Put row)) may = at_least rule 2 (λ past. are.work past (Request.Record place (RecordRequest.Put row)) may)
   no_earlier rule are (Request.Record place (RecordRequest.DropArchive its_key)) may =
       at_least rule 2 (λ past. are.work past (Request.Record place (RecordRequest.DropArchive its_key)) may)
+  no_earlier rule are (Request.Record place (RecordRequest.Touch its_key)) may = at_least rule 2 (λ past. are.work past (Request.Record place (RecordRequest.Touch its_key)) may)
 
   -- what is over where a rule applies
 

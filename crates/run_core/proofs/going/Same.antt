@@ -19,9 +19,9 @@ use Rattle.run_core.specs.declared.job_states.JobState.{JobState}
 use Rattle.run_core.specs.declared.state.Phase.{Phase}
 use Rattle.run_core.specs.declared.state.Turn.{Turn}
 use Rattle.job_graph.specs.Unfold.{Known}
-use Rattle.run_core.specs.inner.Course.{Past, families_in, known_in, past_of}
+use Rattle.run_core.specs.inner.Course.{Past, families_in, key_in, known_in, past_of}
 use Rattle.run_core.specs.inner.Due.{Calls}
-use Rattle.run_core.specs.inner.Standing.{IsAt, IsStaging, IsWorking, Runs, collecting, delivering, ended, measuring, staging, working, FindsNext, finding, putting, storing, FetchesNext, dropping, fetching}
+use Rattle.run_core.specs.inner.Standing.{IsAt, IsStaging, IsWorking, Runs, collecting, delivering, ended, measuring, staging, working, FindsNext, finding, putting, storing, FetchesNext, discarding, dropping, fetching, touching}
 use Rattle.run_core.proofs.events.Reflecting.{reflects_same}
 use Rattle.run_core.specs.inner.Fetches.{archived_in}
 use Rattle.run_core.specs.inner.FoundRows.{row_in}
@@ -95,8 +95,13 @@ module _ (s : Scene) (f : Progress) (marks : List Mark) (old new : Course) (past
   at_same (fetching n job row r next) =
       subst (λ folders. IsAt s f marks new (record { asks = Request.Host job.place (HostRequest.Fetch row.key (folders + 1) row.files); phase = Phase.Fetching n })) (sym same_folders)
       (fetching n job row (reflects_same s f.events old new None past known r) (fetches_same n job row next))
-  at_same (dropping n job its_key r it due) =
+  at_same (touching n job its_key r it due) =
+      touching n job its_key (reflects_same s f.events old new None past known r) (subst (λ (jobs : List Job). IsJob jobs n job) same_jobs it) due
+  at_same (dropping n job its_key r it due own) =
       dropping n job its_key (reflects_same s f.events old new None past known r) (subst (λ (jobs : List Job). IsJob jobs n job) same_jobs it) due
+      (own ∙ ap (λ (p : Past). key_in p.rows n) (sym past))
+  at_same (discarding n job its_key left r it due) =
+      discarding n job its_key left (reflects_same s f.events old new None past known r) (subst (λ (jobs : List Job). IsJob jobs n job) same_jobs it) due
   at_same (staging n job plan r st) =
       subst (λ folders. IsAt s f marks new (record { asks = Request.Host job.place (HostRequest.Stage plan (folders + 1)); phase = Phase.Staging n })) (sym same_folders)
       (staging n job plan (reflects_same s f.events old new None past known r) (staging_same n job plan st))

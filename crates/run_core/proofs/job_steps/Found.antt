@@ -1,6 +1,6 @@
 -- The record has told what it has of a job: the run goes on, or the answer settles its end.
 use Rattle.std.specs.Prelude.{IsSome, Result, Err, is_some}
-use Rattle.std.proofs.Common.{◌≡◌, false, true, ℕ, List, [], ◌∷◌, ◌++◌, Option, Some, None, subst, sym, refl, append-nil, ◌∙◌, ap}
+use Rattle.std.proofs.Common.{◌≡◌, false, true, ℕ, List, [], ◌∷◌, ◌++◌, Option, Some, None, subst, sym, refl, ◌∙◌, ap}
 use Rattle.job_graph.specs.Jobs.{Job}
 use Rattle.job_key.specs.Key.{key}
 use Rattle.job_rows.specs.declared.refusal.RecordRefusal.{RecordRefusal}
@@ -11,32 +11,28 @@ use Rattle.run_rules.specs.declared.outcome.RunFault.{RunFault}
 use Rattle.run_rules.specs.declared.request.Pair.{Pair}
 use Rattle.run_rules.specs.declared.request.RecordAnswer.{RecordAnswer}
 use Rattle.run_rules.specs.declared.request.RecordRequest.{RecordRequest}
-use Rattle.run_rules.specs.Events.{Event, Progress, find_failed, job_at, measures, no_row, nothing_due, resolved, row_found, put_due, put_failed}
+use Rattle.run_rules.specs.Events.{Event, Progress, find_failed, job_at, measures, no_row, nothing_due, resolved, row_found}
 use Rattle.run_rules.specs.Plans.{InForce, PlansSoFar}
 use Rattle.run_rules.specs.Run.{Goes}
 use Rattle.run_rules.specs.Scene.{Scene}
-use Rattle.run_rules.specs.Steps.{Steps, command, find_fails, finds, finds_none, finds_wrong, progress_with, puts, put_fails}
+use Rattle.run_rules.specs.Steps.{Steps, command, find_fails, finds, finds_none, finds_wrong, progress_with}
 use Rattle.run_rules.proofs.events.Grows.{comes_on}
 use Rattle.run_core.specs.declared.state.Course.{Course}
 use Rattle.run_core.specs.declared.state.Given.{Given}
 use Rattle.run_core.specs.declared.state.Turn.{Turn}
-use Rattle.run_core.specs.inner.Course.{Past, known_in, past_of, place_at, with_answer, with_end, with_note, put_note}
+use Rattle.run_core.specs.inner.Course.{Past, known_in, past_of, place_at, with_answer, with_end}
 use Rattle.run_core.specs.inner.Keeps.{Reflects}
-use Rattle.run_core.specs.inner.Picks.{AfterFind, LearnsRow, Picks, Tells, has_none, has_row, has_wrong_row, refuses, AfterPut}
+use Rattle.run_core.specs.inner.Picks.{AfterFind, LearnsRow, Picks, Tells, has_none, has_row, has_wrong_row, refuses}
 use Rattle.run_core.specs.inner.Standing.{FindsNext, KeepsPlans, Runs}
 use Rattle.run_core.specs.inner.Knows.{IsKnown}
 use Rattle.job_graph.specs.declared.unfolding.Unfolding.{Unfolding}
-use Rattle.run_core.proofs.PlansKept.{answer_planned, planned_same, row_planned, some_known}
+use Rattle.run_core.proofs.PlansKept.{answer_planned, row_planned, some_known}
 use Rattle.run_core.proofs.events.Numbers.{job_there, place_there}
 use Rattle.run_core.proofs.events.Learning.{row_teaches, taught}
-use Rattle.run_core.proofs.events.Reflecting.{Laws, answer_reflects, find_failed_reflects, known_there, none_is_told, put_failed_reflects, reflects_same}
+use Rattle.run_core.proofs.events.Reflecting.{Laws, answer_reflects, find_failed_reflects, known_there, none_is_told}
 use Rattle.run_core.proofs.job_steps.Turns.{PicksNext}
-use Rattle.run_rules.proofs.events.Places.{one_job, IsJob}
+use Rattle.run_rules.proofs.events.Places.{one_job}
 use Rattle.run_core.proofs.FoundRows.{no_row_found}
-use Rattle.run_rules.specs.Answers.{CanTell, is_put, is_refused}
-use Rattle.run_rules.proofs.events.Asks.{due_when}
-use Rattle.run_rules.specs.declared.request.Request.{Request}
-use Rattle.job_rows.specs.declared.row.Row.{Row}
 use Rattle.job_graph.specs.Words.{JobPlace}
 
 module _ (s : Scene) (given : Given) (laws : Laws s) (t : List Pair) (picks : PicksNext s given t) (f : Progress) (plans : PlansSoFar) (goes : Goes s (InForce s) t f plans) (old : Course) (n : ℕ)
@@ -97,28 +93,3 @@ module _ (s : Scene) (given : Given) (laws : Laws s) (t : List Pair) (picks : Pi
       (subst (λ (k : Option Unfolding). IsKnown (s.walker (measures f.events)) (resolved f.events) k) (sym after.known)
       (r.knows (open_before answer after.refusal after.noted after.past going)))) after.learns
       (subst (λ (p : Past). KeepsPlans plans p) (sym after.past) (answer_planned plans n answer after.refusal (past_of old) planned))) after.picks
-
--- The record has answered whether the row of a job is kept
-module _ (s : Scene) (given : Given) (t : List Pair) (picks : PicksNext s given t) (f : Progress) (plans : PlansSoFar) (goes : Goes s (InForce s) t f plans) (old : Course) (n : ℕ) (job : Job)
-    (row : Row) (planned : KeepsPlans plans (past_of old)) (r : Reflects s f.events old None) (it : IsJob (known_in old.known) n job) (due : f.work ≡ put_due job.place row) where
-  abbrev its_put : RecordRequest
-  its_put = RecordRequest.Put row
-
-  put_by : (answer : RecordAnswer) (new_events : List Event) → Steps s f (command job.place its_put answer) nothing_due new_events → (noted : Course) →
-      KeepsPlans plans (past_of noted) → Reflects s (f.events ++ new_events) noted None → (turn : Turn) (new : Course) → Picks given noted turn new → Runs s (t ++ command job.place its_put answer ∷ []) new turn
-  put_by answer new_events steps noted kept reflects turn new picked =
-      picks (command job.place its_put answer) (progress_with f nothing_due new_events) plans
-      (comes_on s (command job.place its_put answer) nothing_due new_events goes (due_when s f plans.marks (put_due job.place row) (Request.Record job.place its_put) due refl) steps)
-      refl noted turn new kept reflects picked
-
-  pub put_goes_on : (answer : RecordAnswer) → CanTell its_put answer → (turn : Turn) (new : Course) → AfterPut given old n answer turn new →
-      Runs s (t ++ command job.place its_put answer ∷ []) new turn
-  put_goes_on answer (is_put its_row) turn new after =
-      put_by RecordAnswer.Done [] (puts job.place row) after.noted (planned_same plans (past_of old) (past_of after.noted) after.past planned)
-      (subst (λ (happened : List Event). Reflects s happened after.noted None) (sym (append-nil f.events)) (reflects_same s f.events old after.noted None after.past after.known r))
-      turn new after.picks
-  put_goes_on answer (is_refused request refusal) turn new after =
-      put_by (RecordAnswer.Refused refusal) (put_failed job.place refusal ∷ []) (put_fails job.place row refusal) after.noted (subst (λ (p : Past). KeepsPlans plans p) (sym after.past) planned)
-      (put_failed_reflects s f.events old after.noted job.place refusal
-      (after.past ∙ ap (λ (place : JobPlace). with_note (put_note place refusal) (past_of old)) (place_there (known_in old.known) n job it)) after.known r)
-      turn new after.picks

@@ -1,7 +1,7 @@
 -- What each answer leaves.
 use Rattle.std.specs.Prelude.{Contains}
 use Rattle.std.proofs.Common.{◌≡◌, true, false, List, [], Option, None, Result, Err, refl, sym, ap, subst, ℕ, Some}
-use Rattle.proc_host.specs.Answers.{fault_of, is_measured, is_staged, is_started, has_ended, is_listed, is_read, is_delivered, is_stored, has_failed, is_fetched}
+use Rattle.proc_host.specs.Answers.{fault_of, is_measured, is_staged, is_started, has_ended, is_listed, is_read, is_delivered, is_stored, is_discarded, has_failed, is_fetched}
 use Rattle.proc_host.specs.declared.call.Entry.{Entry}
 use Rattle.proc_host.specs.declared.call.HostAnswer.{HostAnswer}
 use Rattle.proc_host.specs.declared.call.HostFault.{HostFault}
@@ -15,7 +15,7 @@ use Rattle.run_rules.specs.declared.outcome.Outcome.{Outcome}
 use Rattle.run_rules.specs.declared.outcome.RunFault.{RunFault}
 use Rattle.run_rules.specs.declared.request.Answer.{Answer}
 use Rattle.run_rules.specs.declared.request.Request.{Request}
-use Rattle.job_graph.specs.Words.{JobPlace}
+use Rattle.job_graph.specs.Words.{JobPlace, Name}
 use Rattle.run_rules.specs.declared.request.RecordRequest.{RecordRequest}
 use Rattle.job_rows.specs.declared.row.Row.{Row}
 use Rattle.run_core.specs.declared.state.Course.{Course}
@@ -32,7 +32,7 @@ use Rattle.run_core.specs.inner.Measures.{MeasuresOn, all_measured, measures}
 use Rattle.run_core.specs.inner.Picks.{AfterEnd, AfterFault, badly, for_now, well}
 use Rattle.run_core.specs.inner.Standing.{Blames}
 use Rattle.run_core.proofs.standing.Books.{Books, books_end, books_landed, books_staged, books_start, books_unstaged, books_noted, books_unfetched}
-use Rattle.run_core.proofs.standing.Leaving.{FewKnown, KnowsSome, Leaves, MayKnow, books_course, books_unfolded, leaves_end, leaves_temporary, picks_leave, turns_leave, leaves_find, leaves_put, leaves_store, leaves_drop, leaves_fetch}
+use Rattle.run_core.proofs.standing.Leaving.{FewKnown, KnowsSome, Leaves, MayKnow, books_course, books_unfolded, leaves_end, leaves_temporary, picks_leave, turns_leave, leaves_discards, leaves_drop, leaves_fetch, leaves_find, leaves_past, leaves_put, leaves_store, leaves_touch}
 pub use Rattle.run_core.proofs.standing.Leaving.{known_still}
 
 -- an answer of the host's is in its log
@@ -51,6 +51,7 @@ asks_none course place (HostRequest.Head path limit) outcome fits = fits
 asks_none course place (HostRequest.Fetch key number files) outcome fits = fits
 asks_none course place (HostRequest.Store key folder files) outcome fits = fits
 asks_none course place (HostRequest.Deliver plan) outcome fits = fits
+asks_none course place (HostRequest.Discard key) outcome fits = fits
 
 -- while a row is looked for nothing is asked of the host
 pub asks_no_call : (course : Course) (place : JobPlace) (call : HostRequest) (number : ℕ) → AsksOf course (Request.Host place call) (Phase.Finding number) → ⊥
@@ -63,6 +64,7 @@ asks_no_call course place (HostRequest.Head path limit) number fits = fits
 asks_no_call course place (HostRequest.Fetch key folder files) number fits = fits
 asks_no_call course place (HostRequest.Store key folder files) number fits = fits
 asks_no_call course place (HostRequest.Deliver plan) number fits = fits
+asks_no_call course place (HostRequest.Discard key) number fits = fits
 
 -- nor while one is put
 pub puts_no_call : (course : Course) (place : JobPlace) (call : HostRequest) (number : ℕ) → AsksOf course (Request.Host place call) (Phase.Putting number) → ⊥
@@ -75,6 +77,7 @@ puts_no_call course place (HostRequest.Head path limit) number fits = fits
 puts_no_call course place (HostRequest.Fetch key folder files) number fits = fits
 puts_no_call course place (HostRequest.Store key folder files) number fits = fits
 puts_no_call course place (HostRequest.Deliver plan) number fits = fits
+puts_no_call course place (HostRequest.Discard key) number fits = fits
 
 -- nor while an archive is dropped
 pub drops_no_call : (course : Course) (place : JobPlace) (call : HostRequest) (number : ℕ) → AsksOf course (Request.Host place call) (Phase.Dropping number) → ⊥
@@ -87,30 +90,55 @@ drops_no_call course place (HostRequest.Head path limit) number fits = fits
 drops_no_call course place (HostRequest.Fetch key folder files) number fits = fits
 drops_no_call course place (HostRequest.Store key folder files) number fits = fits
 drops_no_call course place (HostRequest.Deliver plan) number fits = fits
+drops_no_call course place (HostRequest.Discard key) number fits = fits
+
+-- nor while it is noted that one was used
+pub touches_no_call : (course : Course) (place : JobPlace) (call : HostRequest) (number : ℕ) → AsksOf course (Request.Host place call) (Phase.Touching number) → ⊥
+touches_no_call course place (HostRequest.Measure path) number fits = fits
+touches_no_call course place (HostRequest.Stage plan folder) number fits = fits
+touches_no_call course place (HostRequest.Start launch) number fits = fits
+touches_no_call course place HostRequest.Collect number fits = fits
+touches_no_call course place (HostRequest.Scan folder) number fits = fits
+touches_no_call course place (HostRequest.Head path limit) number fits = fits
+touches_no_call course place (HostRequest.Fetch key folder files) number fits = fits
+touches_no_call course place (HostRequest.Store key folder files) number fits = fits
+touches_no_call course place (HostRequest.Deliver plan) number fits = fits
+touches_no_call course place (HostRequest.Discard key) number fits = fits
 
 -- where files are to be fetched, nothing of the record
 pub fetches_no_row : (course : Course) (place : JobPlace) (request : RecordRequest) (number : ℕ) → AsksOf course (Request.Record place request) (Phase.Fetching number) → ⊥
 fetches_no_row course place (RecordRequest.Find key) number fits = fits
 fetches_no_row course place (RecordRequest.Put row) number fits = fits
+fetches_no_row course place (RecordRequest.Touch key) number fits = fits
 fetches_no_row course place (RecordRequest.DropArchive key) number fits = fits
 
 -- where a job is to be staged, nothing of the record
 pub stages_no_row : (course : Course) (place : JobPlace) (request : RecordRequest) (number : ℕ) → AsksOf course (Request.Record place request) (Phase.Staging number) → ⊥
 stages_no_row course place (RecordRequest.Find key) number fits = fits
 stages_no_row course place (RecordRequest.Put row) number fits = fits
+stages_no_row course place (RecordRequest.Touch key) number fits = fits
 stages_no_row course place (RecordRequest.DropArchive key) number fits = fits
 
 -- nor where files are archived
 pub stores_no_row : (course : Course) (place : JobPlace) (request : RecordRequest) (number : ℕ) (row : Row) → AsksOf course (Request.Record place request) (Phase.Storing number row) → ⊥
 stores_no_row course place (RecordRequest.Find key) number row fits = fits
 stores_no_row course place (RecordRequest.Put other) number row fits = fits
+stores_no_row course place (RecordRequest.Touch key) number row fits = fits
 stores_no_row course place (RecordRequest.DropArchive key) number row fits = fits
+
+-- nor where one is discarded
+pub discards_no_row : (course : Course) (place : JobPlace) (request : RecordRequest) (number : ℕ) (left : List Name) → AsksOf course (Request.Record place request) (Phase.Discarding number left) → ⊥
+discards_no_row course place (RecordRequest.Find key) number left fits = fits
+discards_no_row course place (RecordRequest.Put row) number left fits = fits
+discards_no_row course place (RecordRequest.Touch key) number left fits = fits
+discards_no_row course place (RecordRequest.DropArchive key) number left fits = fits
 
 -- nor is the record
 pub asks_no_row : (course : Course) (place : JobPlace) (request : RecordRequest) (outcome : Result Outcome RunFault) →
     AsksOf course (Request.Record place request) (Phase.Ended outcome) → ⊥
 asks_no_row course place (RecordRequest.Find key) outcome fits = fits
 asks_no_row course place (RecordRequest.Put row) outcome fits = fits
+asks_no_row course place (RecordRequest.Touch key) outcome fits = fits
 asks_no_row course place (RecordRequest.DropArchive key) outcome fits = fits
 
 pub after_measure : (given : Given) (old : Course) (entries : List Entry) (turn : Turn) (new : Course) → FewKnown turn new → (measuring : Measuring) →
@@ -160,11 +188,14 @@ module _ (given : Given) (old : Course) (entries : List Entry) (turn : Turn) (ne
   step_leaves asks (Phase.Putting number) answer (by_host place request its can) fits goes knows told bounded blames follows = absurd (puts_no_call old place request number fits)
   step_leaves asks (Phase.Putting number) answer (by_record place request its can) fits goes knows told bounded blames follows =
       leaves_put given.options entries given refl old number its turn new few (record { bounded = bounded; blames = blames }) follows
+  step_leaves asks (Phase.Touching number) answer (by_host place request its can) fits goes knows told bounded blames follows = absurd (touches_no_call old place request number fits)
+  step_leaves asks (Phase.Touching number) answer (by_record place request its can) fits goes knows told bounded blames follows =
+      leaves_touch given.options entries given refl old number its turn new few (record { bounded = bounded; blames = blames }) follows
   step_leaves asks (Phase.Dropping number) answer (by_host place request its can) fits goes knows told bounded blames follows = absurd (drops_no_call old place request number fits)
   step_leaves asks (Phase.Dropping number) answer (by_record place request its can) fits goes knows told bounded blames follows =
-      leaves_drop given.options entries given refl old number its turn new few (record { bounded = bounded; blames = blames }) follows
+      leaves_drop given.options entries given refl old number its turn new (record { bounded = bounded; blames = blames }) follows
   step_leaves asks (Phase.Fetching number) answer (by_host place request its (is_fetched its_key folder files found among)) fits goes knows told bounded blames follows =
-      leaves_fetch given.options entries given refl old number found turn new few (record { bounded = bounded; blames = blames }) follows
+      leaves_fetch given.options entries given refl old number found turn new (record { bounded = bounded; blames = blames }) follows
   step_leaves asks (Phase.Fetching number) answer (by_host place request its (has_failed call)) fits goes knows told bounded blames follows =
       after_fault place (fault_of call) told (books_unfetched given.options entries (past_of old) number (record { bounded = bounded; blames = blames })) follows
   step_leaves asks (Phase.Staging number) answer (by_host place request its (is_staged plan folder)) fits goes knows told bounded blames follows =
@@ -209,6 +240,10 @@ module _ (given : Given) (old : Course) (entries : List Entry) (turn : Turn) (ne
   step_leaves asks (Phase.Storing number row) answer (by_host place request its (has_failed call)) fits goes knows told bounded blames follows =
       leaves_store given.options entries given refl old number (record row { archived = false }) (with_note (store_note (place_at (known_in old.known) number) (fault_of call)) (past_of old)) turn new
       (books_noted given.options entries (past_of old) (store_note (place_at (known_in old.known) number) (fault_of call)) (record { bounded = bounded; blames = blames })) follows
+  step_leaves asks (Phase.Discarding number left) answer (by_host place request its (is_discarded key)) fits goes knows told bounded blames follows =
+      leaves_discards given.options entries given refl old number left turn new few (record { bounded = bounded; blames = blames }) follows
+  step_leaves asks (Phase.Discarding number left) answer (by_host place request its (has_failed call)) fits goes knows told bounded blames follows =
+      leaves_past given.options entries given refl old number left (fault_of call) turn new few (record { bounded = bounded; blames = blames }) follows
   step_leaves asks Phase.Draining answer may fits goes knows told bounded blames follows = absurd (goes refl)
   step_leaves asks (Phase.Ended outcome) answer (by_host place request its can) fits goes knows told bounded blames follows = absurd (asks_none old place request outcome fits)
   step_leaves asks phase answer (by_host place request its can) fits goes knows told bounded blames follows = absurd fits

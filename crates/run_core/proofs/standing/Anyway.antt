@@ -16,7 +16,7 @@ use Rattle.input_files.specs.Contents.{heads_wanted, with_contents}
 use Rattle.input_files.specs.declared.contents.TheConstants.{MOST_CONTENTS}
 use Rattle.input_files.specs.declared.fault.ContentsFault.{ContentsFault}
 use Rattle.plain_data.specs.ByName.{with_value}
-use Rattle.proc_host.specs.Answers.{CanAnswer, fault_of, is_measured, is_staged, is_started, has_ended, is_listed, is_read, is_delivered, is_stored, has_failed, is_fetched}
+use Rattle.proc_host.specs.Answers.{CanAnswer, fault_of, is_measured, is_staged, is_started, has_ended, is_listed, is_read, is_delivered, is_stored, is_discarded, has_failed, is_fetched}
 use Rattle.proc_host.specs.ExitClass.{class_of}
 use Rattle.proc_host.specs.declared.call.HostAnswer.{HostAnswer}
 use Rattle.proc_host.specs.declared.call.HostRequest.{HostRequest}
@@ -32,9 +32,9 @@ use Rattle.run_rules.specs.declared.request.Pair.{Pair}
 use Rattle.run_rules.specs.declared.request.Request.{Request}
 use Rattle.run_rules.specs.declared.setting.Options.{Options}
 use Rattle.run_rules.specs.Allowed.{Allowed}
-use Rattle.run_rules.specs.Answers.{MayAnswer, by_host, by_record, is_found, is_refused, is_put, is_dropped}
+use Rattle.run_rules.specs.Answers.{MayAnswer, by_host, by_record, is_found, is_refused, is_put, is_dropped, is_touched}
 use Rattle.run_rules.specs.CollectsOn.{CollectsOn, reads_on as reads_more, collects, collects_none, left_of}
-use Rattle.run_rules.specs.Events.{Event, Work, Started, Progress, file_measured, job_staged, job_started, child_exited, job_succeeded, job_failed, job_failed_for_now, result_delivered, host_failed, collect_failed, job_at, nothing_due, input_heads_due, number_at, scan_due, output_heads_due, start_due, row_found, no_row, find_failed, row_at, row_differs, put_due, put_failed, is_reusable, store_failed, archive_differs, drop_due, drop_failed, files_fetched, host_failed_late}
+use Rattle.run_rules.specs.Events.{Event, Work, Started, Progress, file_measured, job_staged, job_started, child_exited, job_succeeded, job_failed, job_failed_for_now, result_delivered, host_failed, collect_failed, job_at, nothing_due, input_heads_due, number_at, scan_due, output_heads_due, start_due, row_found, no_row, find_failed, row_at, row_differs, put_due, put_failed, is_reusable, store_failed, archive_differs, discard_due, discard_failed, drop_due, drop_failed, files_fetched, host_failed_late, touch_due, touch_failed}
 use Rattle.run_rules.specs.End.{End, settled}
 use Rattle.run_rules.specs.Folders.{runtime_of}
 use Rattle.run_rules.specs.Plans.{InForce, PlansSoFar}
@@ -45,7 +45,7 @@ use Rattle.run_core.proofs.KnownGraphs.{known_make_graphs}
 use Rattle.plan_checker.specs.Laws.{EachHasLeast}
 use Rattle.run_rules.specs.Scene.{Scene}
 use Rattle.run_rules.specs.StartsOn.{StartsOn, reads_on, has_launch, has_no_launch, has_no_contents}
-use Rattle.run_rules.specs.Steps.{Steps, progress_with, measures_file, stages, reads_input, starts, exits_well, exits_for_now, exits_badly, scans, reads_output, delivers, loses_collect, call_fails, finds_none, finds, finds_wrong, find_fails, puts, put_fails, stores, store_fails, fails_apart, fetches, fetches_other, drops, drop_fails, call_fails_late}
+use Rattle.run_rules.specs.Steps.{Steps, progress_with, measures_file, stages, reads_input, starts, exits_well, exits_for_now, exits_badly, scans, reads_output, delivers, loses_collect, call_fails, finds_none, finds, finds_wrong, find_fails, puts, put_fails, stores, store_fails, fails_apart, fetches, fetches_other, drops, drop_fails, touches, touch_fails, discards, discard_fails, call_fails_late, work_to_discard}
 use Rattle.run_rules.proofs.events.Places.{IsJob}
 use Rattle.job_key.specs.Key.{Key, key}
 use Rattle.job_reuse.specs.Sound.{IsSound}
@@ -65,7 +65,7 @@ use Rattle.run_core.specs.inner.Course.{known_in}
 use Rattle.run_core.specs.inner.Due.{call_for}
 use Rattle.run_core.specs.inner.Follows.{AsksOf}
 use Rattle.run_core.specs.inner.Keeps.{Reflects}
-use Rattle.run_core.specs.inner.Standing.{HasStarted, IsAt, IsWorking, Runs, collecting, delivering, ended, measuring, staging, working, finding, putting, storing, dropping, fetching}
+use Rattle.run_core.specs.inner.Standing.{HasStarted, IsAt, IsWorking, Runs, collecting, delivering, ended, measuring, staging, working, finding, putting, storing, discarding, dropping, fetching, touching}
 use Rattle.run_core.proofs.events.Reflecting.{FliesThere, flies_there, known_there}
 use Rattle.run_core.proofs.job_steps.Calls.{for_job, for_job_apart}
 use Rattle.run_core.specs.inner.JobStates.{state_at}
@@ -267,7 +267,7 @@ module _ (s : Scene) (least : EachHasLeast) (t : List Pair) (f : Progress) (plan
       AreTheSame row.files fetched ⊎ (AreTheSame row.files fetched → ⊥) → Allowed s f plans.marks (Request.Host job.place (HostRequest.Fetch its_key number files)) →
       GoesOn s (t ++ noted (Request.Host job.place (HostRequest.Fetch its_key number files)) (Answer.Host (HostAnswer.Fetched fetched)) ∷ [])
   fetch_anyway job its_key number files fetched row there (inl same) allowed =
-      goes_with _ nothing_due (files_fetched job.place number ∷ []) allowed (fetches job.place its_key number files fetched row there same)
+      goes_with _ (touch_due job.place row.key) (files_fetched job.place number ∷ []) allowed (fetches job.place its_key number files fetched row there same)
   fetch_anyway job its_key number files fetched row there (inr other) allowed =
       goes_with _ (drop_due job.place row.key) (archive_differs job.place row.key number ∷ []) allowed (fetches_other job.place its_key number files fetched row there other)
 
@@ -283,16 +283,25 @@ module _ (s : Scene) (least : EachHasLeast) (t : List Pair) (f : Progress) (plan
       row_anyway job its row (known_there s f.events course None number job next.it reflects) (can.rows job.tool row can.row) allowed
   at_goes_on can (finding number job reflects next) fits (by_record place request answer (is_refused its refusal)) allowed =
       goes_with _ nothing_due (find_failed job.place refusal ∷ []) allowed (find_fails job.place _ refusal)
-  at_goes_on can (putting number job row reflects it due) fits (by_record place request answer (is_put its)) allowed = goes_with _ nothing_due [] allowed (puts job.place row)
+  at_goes_on can (putting number job row reflects it due) fits (by_record place request answer (is_put its gone)) allowed =
+      goes_with _ (work_to_discard job.place gone) [] allowed (puts job.place row gone)
   at_goes_on can (putting number job row reflects it due) fits (by_record place request answer (is_refused its refusal)) allowed =
       goes_with _ nothing_due (put_failed job.place refusal ∷ []) allowed (put_fails job.place row refusal)
   at_goes_on can (fetching number job row reflects next) fits (by_host place request answer (is_fetched its_key folder files fetched among)) allowed =
       fetch_anyway job row.key (course.folders + 1) row.files fetched row (reflects.rows.each number job next.it ∙ next.found) (can.files row.files fetched) allowed
   at_goes_on can (fetching number job row reflects next) fits (by_host place request answer (has_failed call)) allowed =
       fails_anyway job.place (HostRequest.Fetch row.key (course.folders + 1) row.files) refl allowed
-  at_goes_on can (dropping number job its_key reflects it due) fits (by_record place request answer (is_dropped its)) allowed = goes_with _ nothing_due [] allowed (drops job.place its_key)
-  at_goes_on can (dropping number job its_key reflects it due) fits (by_record place request answer (is_refused its refusal)) allowed =
-      goes_with _ nothing_due (drop_failed job.place refusal ∷ []) allowed (drop_fails job.place its_key refusal)
+  at_goes_on can (touching number job its_key reflects it due) fits (by_record place request answer (is_touched its)) allowed = goes_with _ nothing_due [] allowed (touches job.place its_key)
+  at_goes_on can (touching number job its_key reflects it due) fits (by_record place request answer (is_refused its refusal)) allowed =
+      goes_with _ nothing_due (touch_failed job.place refusal ∷ []) allowed (touch_fails job.place its_key refusal)
+  at_goes_on can (dropping number job its_key reflects it due own) fits (by_record place request answer (is_dropped its)) allowed =
+      goes_with _ (discard_due job.place its_key []) [] allowed (drops job.place its_key)
+  at_goes_on can (dropping number job its_key reflects it due own) fits (by_record place request answer (is_refused its refusal)) allowed =
+      goes_with _ (discard_due job.place its_key []) (drop_failed job.place refusal ∷ []) allowed (drop_fails job.place its_key refusal)
+  at_goes_on can (discarding number job its_key left reflects it due) fits (by_host place request answer (is_discarded its)) allowed =
+      goes_with _ (work_to_discard job.place (reverse left)) [] allowed (discards job.place its_key (reverse left) due)
+  at_goes_on can (discarding number job its_key left reflects it due) fits (by_host place request answer (has_failed call)) allowed =
+      goes_with _ (work_to_discard job.place (reverse left)) (discard_failed job.place ∷ []) allowed (discard_fails job.place its_key (reverse left) due)
   at_goes_on can (storing number job row reflects it due) fits (by_host place request answer (is_stored its folder files)) allowed =
       goes_with _ (put_due job.place (record row { archived = true })) [] allowed (stores job.place _ _ _ row due)
   at_goes_on can (storing number job row reflects it due) fits (by_host place request answer (has_failed call)) allowed =

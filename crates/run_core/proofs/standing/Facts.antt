@@ -25,7 +25,7 @@ use Rattle.run_core.specs.inner.Course.{Past, known_in, past_of}
 use Rattle.run_core.specs.inner.Due.{call_for, work_of}
 use Rattle.run_core.specs.inner.Keeps.{Reflects}
 use Rattle.run_core.specs.inner.Knows.{IsKnown}
-use Rattle.run_core.specs.inner.Standing.{IsAt, Runs, collecting, delivering, ended, measuring, staging, working, finding, putting, storing, dropping, fetching}
+use Rattle.run_core.specs.inner.Standing.{IsAt, Runs, collecting, delivering, ended, measuring, staging, working, finding, putting, storing, discarding, dropping, touching, fetching}
 use Rattle.run_core.proofs.standing.Anyway.{IsNext, input_next, output_next}
 use Rattle.run_core.proofs.standing.Few.{few_unfolded}
 use Rattle.run_core.proofs.standing.Fewer.{HasLast, LooksAtSome}
@@ -72,7 +72,9 @@ module _ (s : Scene) where
         (next.left, omega (arith, next.it.within, few))
     looks_at (putting number job row reflects it due) = tt
     looks_at (fetching number job row reflects next) = tt
-    looks_at (dropping number job its_key reflects it due) = tt
+    looks_at (touching number job its_key reflects it due) = tt
+    looks_at (dropping number job its_key reflects it due own) = tt
+    looks_at (discarding number job its_key left reflects it due) = tt
     looks_at (storing number job row reflects it due) = tt
     looks_at (staging number job plan reflects is_staging) = tt
     looks_at (working number job call phase reflects w) = works_on_some s.options _ (past_of course) number call phase w.calls.due
@@ -86,7 +88,9 @@ module _ (s : Scene) where
     knows_at (finding number job reflects next) asks = knows_by f.events course None reflects
     knows_at (putting number job row reflects it due) asks = knows_by f.events course None reflects
     knows_at (fetching number job row reflects next) asks = knows_by f.events course None reflects
-    knows_at (dropping number job its_key reflects it due) asks = knows_by f.events course None reflects
+    knows_at (touching number job its_key reflects it due) asks = knows_by f.events course None reflects
+    knows_at (dropping number job its_key reflects it due own) asks = knows_by f.events course None reflects
+    knows_at (discarding number job its_key left reflects it due) asks = knows_by f.events course None reflects
     knows_at (storing number job row reflects it due) asks = knows_by f.events course None reflects
     knows_at (staging number job plan reflects is_staging) asks = knows_by f.events course None reflects
     knows_at (working number job call phase reflects w) asks = knows_by f.events course (Some number) reflects
@@ -100,7 +104,9 @@ module _ (s : Scene) where
     apart_at (finding number job reflects next) asks = apart_by f.events course None reflects
     apart_at (putting number job row reflects it due) asks = apart_by f.events course None reflects
     apart_at (fetching number job row reflects next) asks = apart_by f.events course None reflects
-    apart_at (dropping number job its_key reflects it due) asks = apart_by f.events course None reflects
+    apart_at (touching number job its_key reflects it due) asks = apart_by f.events course None reflects
+    apart_at (dropping number job its_key reflects it due own) asks = apart_by f.events course None reflects
+    apart_at (discarding number job its_key left reflects it due) asks = apart_by f.events course None reflects
     apart_at (storing number job row reflects it due) asks = apart_by f.events course None reflects
     apart_at (staging number job plan reflects is_staging) asks = apart_by f.events course None reflects
     apart_at (working number job call phase reflects w) asks = apart_by f.events course (Some number) reflects
@@ -113,7 +119,9 @@ module _ (s : Scene) where
     going_at (finding number job reflects next) drains = cc
     going_at (putting number job row reflects it due) drains = cc
     going_at (fetching number job row reflects next) drains = cc
-    going_at (dropping number job its_key reflects it due) drains = cc
+    going_at (touching number job its_key reflects it due) drains = cc
+    going_at (dropping number job its_key reflects it due own) drains = cc
+    going_at (discarding number job its_key left reflects it due) drains = cc
     going_at (storing number job row reflects it due) drains = cc
     going_at (staging number job plan reflects is_staging) drains = cc
     going_at (working number job call phase reflects w) drains = cc
@@ -127,7 +135,9 @@ module _ (s : Scene) where
     stages_few (putting its_number job row reflects it due) number at = absurd cc
     stages_few (storing its_number job row reflects it due) number at = absurd cc
     stages_few (fetching its_number job row reflects next) number at = absurd cc
-    stages_few (dropping its_number job its_key reflects it due) number at = absurd cc
+    stages_few (touching its_number job its_key reflects it due) number at = absurd cc
+    stages_few (dropping its_number job its_key reflects it due own) number at = absurd cc
+    stages_few (discarding its_number job its_key left reflects it due) number at = absurd cc
     stages_few (staging its_number job plan reflects is_staging) number at =
         known_few (s.walker (measures f.events)) (resolved f.events) course.known (reflects.knows is_staging.going)
     stages_few (working its_number job call phase reflects w) number at = absurd cc
@@ -147,7 +157,9 @@ module _ (s : Scene) where
           few = known_few (s.walker (measures f.events)) (resolved f.events) course.known (reflects.knows next.going);
         })
     fetches_untried (storing its_number job row reflects it due) number at = absurd cc
-    fetches_untried (dropping its_number job its_key reflects it due) number at = absurd cc
+    fetches_untried (touching its_number job its_key reflects it due) number at = absurd cc
+    fetches_untried (dropping its_number job its_key reflects it due own) number at = absurd cc
+    fetches_untried (discarding its_number job its_key left reflects it due) number at = absurd cc
     fetches_untried (staging its_number job plan reflects is_staging) number at = absurd cc
     fetches_untried (working its_number job call phase reflects w) number at = absurd cc
     fetches_untried (collecting reflects may) number at = absurd cc

@@ -1,8 +1,8 @@
 -- The children in flight after each answer.
 use Rattle.std.specs.Prelude.{nat_eq, is_some}
 use Rattle.std.specs.List.{IsDistinct}
-use Rattle.std.proofs.Common.{◌≡◌, ◌∙◌, ℕ, Bool, true, false, List, [], None, refl, sym, ap, Option, Some, Result}
-use Rattle.proc_host.specs.Answers.{fault_of, is_measured, is_staged, is_started, has_ended, is_listed, is_read, is_delivered, has_failed, is_stored, is_fetched}
+use Rattle.std.proofs.Common.{◌≡◌, ◌∙◌, ℕ, Bool, true, false, List, [], None, refl, reverse, sym, ap, Option, Some, Result}
+use Rattle.proc_host.specs.Answers.{fault_of, is_measured, is_staged, is_started, has_ended, is_listed, is_read, is_delivered, is_discarded, has_failed, is_stored, is_fetched}
 use Rattle.proc_host.specs.Tickets.{without}
 use Rattle.proc_host.specs.declared.call.HostAnswer.{HostAnswer}
 use Rattle.proc_host.specs.declared.call.HostFault.{HostFault}
@@ -11,7 +11,7 @@ use Rattle.proc_host.specs.declared.child.ChildEnd.{ChildEnd}
 use Rattle.cwl_process.specs.declared.tool.Tool.{Tool}
 use Rattle.job_graph.specs.Jobs.{Job, Walker}
 use Rattle.job_graph.specs.Unfold.{Resolved}
-use Rattle.job_graph.specs.Words.{JobPlace}
+use Rattle.job_graph.specs.Words.{JobPlace, Name}
 use Rattle.run_rules.specs.Answers.{MayAnswer, by_host, flying_after, by_record}
 use Rattle.run_rules.specs.declared.request.Answer.{Answer}
 use Rattle.run_rules.specs.declared.request.Request.{Request}
@@ -32,10 +32,11 @@ use Rattle.run_core.specs.inner.Follows.{AsksOf, FollowsFrom, IsLeftAfter}
 use Rattle.run_core.specs.inner.Knows.{IsUnfolded, LearnsUnlessOver, fails as unfold_fails, knows as unfold_knows}
 use Rattle.run_core.specs.inner.JobStates.{state_at}
 use Rattle.run_core.specs.inner.Measures.{MeasuresOn, all_measured, measures}
-use Rattle.run_core.specs.inner.Picks.{AfterEnd, AfterFault, AfterTemporary, Picks, Turns, asks, badly, chooses, drains, ends_so, fails, for_now, gives, well, AfterFind, finds, AfterDrop, AfterFetch, AfterPut, LearnsRow, PutsOrPicks, agrees, differs, dropped_by, noted_by, mismatches, repeats}
+use Rattle.run_core.specs.inner.Picks.{AfterEnd, AfterFault, AfterTemporary, Picks, Turns, asks, badly, chooses, drains, ends_so, fails, for_now, gives, well, AfterFetch, AfterFind, AfterTouch, LearnsRow, PicksAfter, PutsOrPicks, agrees, differs, finds, mismatches, repeats, touched_by}
+use Rattle.run_core.specs.inner.Discards.{AfterDrop, AfterPut, DiscardsOn, DiscardsPast, discards_one, dropped_by, none_left}
 use Rattle.staging.specs.declared.found.Found.{Found}
 use Rattle.run_core.proofs.Plans.{replanned}
-use Rattle.run_core.proofs.standing.Answered.{asks_none, asks_no_call, drops_no_call, puts_no_call}
+use Rattle.run_core.proofs.standing.Answered.{asks_none, asks_no_call, drops_no_call, puts_no_call, touches_no_call}
 use Rattle.run_core.proofs.standing.Leaving.{KnowsSome, MayKnow, is_none, known_still, learns_by, row_unlearned, settled_by_refusal}
 use Rattle.run_core.proofs.standing.Tickets.{one_less}
 use Rattle.job_rows.specs.declared.row.Row.{Row}
@@ -111,32 +112,50 @@ module _ (given : Given) where
   answer_fly number answer None past = refl
   answer_fly number answer (Some refusal) past = refl
 
-  note_fly : (place : JobPlace) (answer : RecordAnswer) (past : Past) → (noted_by place answer past).tickets ≡ past.tickets
-  note_fly place (RecordAnswer.Found row) past = refl
-  note_fly place RecordAnswer.Done past = refl
-  note_fly place (RecordAnswer.Refused refusal) past = refl
+  after_fly : (old : Course) (kept : Past) (turn : Turn) (new : Course) → kept.tickets ≡ old.tickets.items → PicksAfter given old kept turn new → new.tickets.items ≡ old.tickets.items
+  after_fly old kept turn new same after = picks_fly after.noted turn new after.picks ∙ ap (λ (p : Past). p.tickets) after.past ∙ same
+
+  discards_fly : (old : Course) (number : ℕ) (left : List Name) (turn : Turn) (new : Course) → DiscardsOn given old number left turn new → new.tickets.items ≡ old.tickets.items
+  discards_fly old number left turn new (none_left none picks) = picks_fly old turn new picks
+  discards_fly old number left turn new (discards_one rest key is turn_is same known) = same_tickets (past_of new) (past_of old) same
+
+  past_fly : (old : Course) (number : ℕ) (left : List Name) (fault : HostFault) (turn : Turn) (new : Course) → DiscardsPast given old number left fault turn new →
+      new.tickets.items ≡ old.tickets.items
+  past_fly old number left fault turn new after = discards_fly after.noted number left turn new after.on ∙ ap (λ (p : Past). p.tickets) after.past
 
   put_fly : (old : Course) (number : ℕ) (answer : RecordAnswer) (turn : Turn) (new : Course) → AfterPut given old number answer turn new → new.tickets.items ≡ old.tickets.items
-  put_fly old number answer turn new after =
-      picks_fly after.noted turn new after.picks ∙ ap (λ (p : Past). p.tickets) after.past ∙ note_fly (place_at (known_in old.known) number) answer (past_of old)
+  put_fly old number (RecordAnswer.Put gone) turn new after = discards_fly old number (reverse gone) turn new after.on
+  put_fly old number (RecordAnswer.Refused refusal) turn new after = after_fly old _ turn new refl after
+  put_fly old number (RecordAnswer.Found row) turn new after = absurd after
+  put_fly old number RecordAnswer.Done turn new after = absurd after
 
-  fetch_fly : (old : Course) (number : ℕ) (found : List Found) (turn : Turn) (new : Course) → AfterFetch given old number found turn new → new.tickets.items ≡ old.tickets.items
-  fetch_fly old number found turn new (agrees loaded its past known picks) = picks_fly loaded turn new picks ∙ ap (λ (p : Past). p.tickets) past
-  fetch_fly old number found turn new (differs other drops past known) = ap (λ (p : Past). p.tickets) past
+  fetch_fly : (old : Course) (number : ℕ) (found : List Found) (turn : Turn) (new : Course) → AfterFetch old number found turn new → new.tickets.items ≡ old.tickets.items
+  fetch_fly old number found turn new (agrees its turn_is past known) = ap (λ (p : Past). p.tickets) past
+  fetch_fly old number found turn new (differs other turn_is past known) = ap (λ (p : Past). p.tickets) past
+
+  touched_fly : (place : JobPlace) (answer : RecordAnswer) (past : Past) → (touched_by place answer past).tickets ≡ past.tickets
+  touched_fly place (RecordAnswer.Found row) past = refl
+  touched_fly place (RecordAnswer.Put gone) past = refl
+  touched_fly place RecordAnswer.Done past = refl
+  touched_fly place (RecordAnswer.Refused refusal) past = refl
+
+  touch_fly : (old : Course) (number : ℕ) (answer : RecordAnswer) (turn : Turn) (new : Course) → AfterTouch given old number answer turn new → new.tickets.items ≡ old.tickets.items
+  touch_fly old number answer turn new after = after_fly old _ turn new (touched_fly (place_at (known_in old.known) number) answer (past_of old)) after
 
   dropped_fly : (place : JobPlace) (answer : RecordAnswer) (past : Past) → (dropped_by place answer past).tickets ≡ past.tickets
   dropped_fly place (RecordAnswer.Found row) past = refl
+  dropped_fly place (RecordAnswer.Put gone) past = refl
   dropped_fly place RecordAnswer.Done past = refl
   dropped_fly place (RecordAnswer.Refused refusal) past = refl
 
-  drop_fly : (old : Course) (number : ℕ) (answer : RecordAnswer) (turn : Turn) (new : Course) → AfterDrop given old number answer turn new → new.tickets.items ≡ old.tickets.items
-  drop_fly old number answer turn new after =
-      picks_fly after.noted turn new after.picks ∙ ap (λ (p : Past). p.tickets) after.past ∙ dropped_fly (place_at (known_in old.known) number) answer (past_of old)
+  drop_fly : (old : Course) (number : ℕ) (answer : RecordAnswer) (turn : Turn) (new : Course) → AfterDrop old number answer turn new → new.tickets.items ≡ old.tickets.items
+  drop_fly old number answer turn new after = ap (λ (p : Past). p.tickets) after.past ∙ dropped_fly (place_at (known_in old.known) number) answer (past_of old)
 
   learned_fly : (place : JobPlace) (answer : RecordAnswer) (old new : Course) → (old.end ≡ None → KnowsSome old) → LearnsRow place answer old new →
       new.tickets.items ≡ old.tickets.items
   learned_fly place (RecordAnswer.Found (Some row)) old new knows learns = unless_over_fly old new _ knows learns
   learned_fly place (RecordAnswer.Found None) old new knows learns = ap (λ (p : Past). p.tickets) learns.0
+  learned_fly place (RecordAnswer.Put gone) old new knows learns = ap (λ (p : Past). p.tickets) learns.0
   learned_fly place RecordAnswer.Done old new knows learns = ap (λ (p : Past). p.tickets) learns.0
   learned_fly place (RecordAnswer.Refused refusal) old new knows learns = ap (λ (p : Past). p.tickets) learns.0
 
@@ -183,6 +202,8 @@ module _ (given : Given) where
     step_flies it (Phase.Finding number) answer (by_record place request its can) fits goes knows follows = flies_on _ _ (find_fly old number its turn new knows follows)
     step_flies it (Phase.Putting number) answer (by_host place request its can) fits goes knows follows = absurd (puts_no_call old place request number fits)
     step_flies it (Phase.Putting number) answer (by_record place request its can) fits goes knows follows = flies_on _ _ (put_fly old number its turn new follows)
+    step_flies it (Phase.Touching number) answer (by_host place request its can) fits goes knows follows = absurd (touches_no_call old place request number fits)
+    step_flies it (Phase.Touching number) answer (by_record place request its can) fits goes knows follows = flies_on _ _ (touch_fly old number its turn new follows)
     step_flies it (Phase.Dropping number) answer (by_host place request its can) fits goes knows follows = absurd (drops_no_call old place request number fits)
     step_flies it (Phase.Dropping number) answer (by_record place request its can) fits goes knows follows = flies_on _ _ (drop_fly old number its turn new follows)
     step_flies it (Phase.Fetching number) answer (by_host place request its (is_fetched its_key folder files found among)) fits goes knows follows =
@@ -218,6 +239,9 @@ module _ (given : Given) where
     step_flies it (Phase.Delivering outputs) answer (by_host place request its (has_failed call)) fits goes knows follows = flies_on _ _ (fault_fly old place _ turn new follows)
     step_flies it (Phase.Storing number row) answer (by_host place request its (is_stored key folder files)) fits goes knows follows = flies_on _ _ (same_tickets (past_of new) (past_of old) follows.past)
     step_flies it (Phase.Storing number row) answer (by_host place request its (has_failed call)) fits goes knows follows = flies_on _ _ (ap (λ (p : Past). p.tickets) follows.past)
+    step_flies it (Phase.Discarding number left) answer (by_host place request its (is_discarded key)) fits goes knows follows = flies_on _ _ (discards_fly old number left turn new follows)
+    step_flies it (Phase.Discarding number left) answer (by_host place request its (has_failed call)) fits goes knows follows =
+        flies_on _ _ (past_fly old number left (fault_of call) turn new follows)
     step_flies it Phase.Draining answer may fits goes knows follows = absurd (goes refl)
     step_flies it (Phase.Ended outcome) answer (by_host place request its can) fits goes knows follows = absurd (asks_none old place request outcome fits)
     step_flies it phase answer (by_host place request its can) fits goes knows follows = absurd fits

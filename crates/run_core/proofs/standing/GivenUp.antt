@@ -19,10 +19,10 @@ use Rattle.run_core.specs.declared.state.Turn.{Turn}
 use Rattle.run_core.specs.Core.{GaveUp, IsDraining, MayEnd, drained_before, nobody_flies}
 use Rattle.run_core.specs.Machine.{is_draining}
 use Rattle.run_core.specs.inner.Inside.{Goes, Stands, mode_of, off_run, on_run, seen, setting_in}
-use Rattle.run_core.specs.inner.Attempts.{StaysBounded, answers_left, many_files, most_stagings, weight_of, weight_of_past}
+use Rattle.run_core.specs.inner.Attempts.{StaysBounded, answers_left, many_items, most_stagings, weight_of, weight_of_past}
 use Rattle.run_core.specs.inner.Course.{Past, past_of}
 use Rattle.run_core.specs.inner.Follows.{told_of}
-use Rattle.run_core.specs.inner.Standing.{Blames, HasRoom, IsAt, IsLostAt, RanOut, Runs, collecting, delivering, draining, ended, lost, measuring, pairs_ahead, staging, working, finding, putting, storing, dropping, fetching}
+use Rattle.run_core.specs.inner.Standing.{Blames, HasRoom, IsAt, IsLostAt, RanOut, Runs, collecting, delivering, draining, ended, lost, measuring, pairs_ahead, staging, working, finding, putting, storing, discarding, dropping, touching, fetching}
 use Rattle.run_core.specs.inner.Turn.{ends, given_up, lost_with, waits}
 use Rattle.run_core.proofs.standing.Facts.{never_drains}
 use Rattle.run_core.proofs.standing.Lost.{some_there}
@@ -61,7 +61,9 @@ module _ (s : Scene) (f : Progress) (marks : List Mark) (course : Course) where
   asks_none_at (finding n job r is_next) outcome phase = absurd cc
   asks_none_at (putting n job row r it due) outcome phase = absurd cc
   asks_none_at (fetching n job row r is_next) outcome phase = absurd cc
-  asks_none_at (dropping n job its_key r it due) outcome phase = absurd cc
+  asks_none_at (touching n job its_key r it due) outcome phase = absurd cc
+  asks_none_at (dropping n job its_key r it due own) outcome phase = absurd cc
+  asks_none_at (discarding n job its_key left r it due) outcome phase = absurd cc
   asks_none_at (storing n job row r it due) outcome phase = absurd cc
   asks_none_at (staging n job plan r st) outcome phase = absurd cc
   asks_none_at (working n job call phase r w) outcome is = absurd cc
@@ -125,7 +127,7 @@ module _ (core : Inside) (asks : core.turn.asks ≢ Request.Finished) where
   more_left (on_run runs) still =
       subst (λ n. length core.course.tickets.items < n) (sym (left_on runs))
       (lost_below (length core.course.tickets.items) (length core.course.tickets.items) (length core.course.tickets.items) 0
-      ((MOST_VERTICES - core.course.looked_up) * 2) ((most_stagings core.given.options - core.course.folders) * (2 * many_files + 8)) (weight_of core.turn.phase) (at_most (length core.course.tickets.items))
+      ((MOST_VERTICES - core.course.looked_up) * 2) ((most_stagings core.given.options - core.course.folders) * (3 * many_items + 8)) (weight_of core.turn.phase) (at_most (length core.course.tickets.items))
       (none_more (length core.course.tickets.items)) (some_weight core.turn.phase))
   more_left (off_run out) still =
       let its : WaitsForSome past core.turn = lost_waits_for past out.at asks in
@@ -240,6 +242,8 @@ module _ (core : Inside) (asks : core.turn.asks ≢ Request.Finished) where
     by_phase (Phase.Putting number) is = by_tickets core.course.tickets.items refl (still (Phase.Putting number) is (λ same. cc))
     by_phase (Phase.Fetching number) is = by_tickets core.course.tickets.items refl (still (Phase.Fetching number) is (λ same. cc))
     by_phase (Phase.Dropping number) is = by_tickets core.course.tickets.items refl (still (Phase.Dropping number) is (λ same. cc))
+    by_phase (Phase.Touching number) is = by_tickets core.course.tickets.items refl (still (Phase.Touching number) is (λ same. cc))
+    by_phase (Phase.Discarding number left) is = by_tickets core.course.tickets.items refl (still (Phase.Discarding number left) is (λ same. cc))
     by_phase (Phase.Storing number row) is = by_tickets core.course.tickets.items refl (still (Phase.Storing number row) is (λ same. cc))
     by_phase (Phase.Staging number) is = by_tickets core.course.tickets.items refl (still (Phase.Staging number) is (λ same. cc))
     by_phase (Phase.Working number work) is = by_tickets core.course.tickets.items refl (still (Phase.Working number work) is (λ same. cc))

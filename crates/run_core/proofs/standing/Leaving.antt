@@ -1,7 +1,7 @@
 -- What each step leaves: the run stays bounded, what it blames on the host is so, and memory is not what it ends by.
 use Rattle.std.specs.Prelude.{◌&&◌, IfErr, IsSome, is_some}
 use Rattle.std.specs.List.{list_all}
-use Rattle.std.proofs.Common.{◌≡◌, ◌∙◌, ℕ, ◌<◌, ◌≤◌, Bool, true, false, List, [], ◌∷◌, ◌++◌, length, Option, Some, None, Result, Ok, Err, refl, sym, ap, subst, arith}
+use Rattle.std.proofs.Common.{◌≡◌, ◌∙◌, ℕ, ◌<◌, ◌≤◌, Bool, true, false, List, [], ◌∷◌, ◌++◌, length, reverse, Option, Some, None, Result, Ok, Err, refl, sym, ap, subst, arith}
 use Rattle.std.proofs.lemmas.Bool.{and_parts}
 use Rattle.plan_checker.specs.Plan.{mark}
 use Rattle.plan_checker.specs.declared.graph.TheConstants.{MOST_VERTICES}
@@ -22,9 +22,11 @@ use Rattle.run_core.specs.declared.state.JobNext.{JobNext}
 use Rattle.run_core.specs.declared.state.Phase.{Phase}
 use Rattle.run_core.specs.declared.state.Turn.{Turn}
 use Rattle.run_core.specs.inner.Attempts.{StaysBounded}
-use Rattle.run_core.specs.inner.Course.{GivesUp, Past, again, families_in, known_in, past_of, too_often, with_answer, failure_by, place_at, put_note, drop_note}
+use Rattle.run_core.specs.inner.Course.{GivesUp, Past, again, families_in, known_in, past_of, too_often, with_answer, discard_note, drop_note, failure_by, place_at, put_note, touch_note}
 use Rattle.run_core.specs.inner.Knows.{IsKnown, IsUnfolded, Learns, LearnsUnlessOver, end_by, fails as unfold_fails, knows as unfold_knows}
-use Rattle.run_core.specs.inner.Picks.{AfterTemporary, Chooses, Delivers, Picks, Stages, Turns, asks, chooses, delivers, drains, ends_so, fails, gives, has_result, stages, succeeds_at_once, waits_for_one, AfterFind, Finds, finds, AfterPut, LearnsRow, PutsOrPicks, noted_by, mismatches, repeats, PutsRow, fetches, AfterDrop, AfterFetch, agrees, differs, dropped_by}
+use Rattle.run_core.specs.inner.Picks.{AfterTemporary, Chooses, Delivers, Picks, Stages, Turns, asks, chooses, delivers, drains, ends_so, fails, gives, has_result, stages, succeeds_at_once, waits_for_one, AfterFetch, AfterFind, AfterTouch, Finds, finds, LearnsRow, PicksAfter, PutsOrPicks, mismatches, repeats, PutsRow, fetches, agrees, differs, touched_by}
+use Rattle.run_core.specs.inner.Discards.{AfterDrop, AfterPut, DiscardsOn, DiscardsPast, discards_one, dropped_by, none_left}
+use Rattle.proc_host.specs.declared.call.HostFault.{HostFault}
 use Rattle.run_core.specs.inner.Fetches.{Fetches}
 use Rattle.run_core.specs.inner.Marks.{is_compute, marks_in}
 use Rattle.run_core.specs.inner.Planning.{Replans, fails as none_planned, plans, stays}
@@ -79,6 +81,7 @@ is_none (Some x) none = absurd cc
 pub row_unlearned : (place : JobPlace) (answer : RecordAnswer) (old new : Course) → IsSome old.end → LearnsRow place answer old new → past_of new ≡ past_of old
 row_unlearned place (RecordAnswer.Found (Some row)) old new over learns = learns.settled over
 row_unlearned place (RecordAnswer.Found None) old new over learns = learns.0
+row_unlearned place (RecordAnswer.Put gone) old new over learns = learns.0
 row_unlearned place RecordAnswer.Done old new over learns = learns.0
 row_unlearned place (RecordAnswer.Refused refusal) old new over learns = learns.0
 
@@ -239,6 +242,7 @@ module _ (options : Options) (entries : List Entry) where
         Books options entries (past_of new)
     row_books place (RecordAnswer.Found (Some row)) old new knows learns books = unless_over_books old new _ knows learns books
     row_books place (RecordAnswer.Found None) old new knows learns books = books_course new old learns.0 books
+    row_books place (RecordAnswer.Put gone) old new knows learns books = books_course new old learns.0 books
     row_books place RecordAnswer.Done old new knows learns books = books_course new old learns.0 books
     row_books place (RecordAnswer.Refused refusal) old new knows learns books = books_course new old learns.0 books
 
@@ -258,37 +262,70 @@ module _ (options : Options) (entries : List Entry) where
         (find_books old after.noted after.learned number answer after.refusal knows after.past after.known after.learns
         (books_at (past_of after.noted) _ after.past (books_answered (past_of old) number answer after.refusal books))) after.picks
 
-    books_put : (past : Past) (place : JobPlace) (answer : RecordAnswer) → Books options entries past → Books options entries (noted_by place answer past)
-    books_put past place (RecordAnswer.Found row) books = books
-    books_put past place RecordAnswer.Done books = books
-    books_put past place (RecordAnswer.Refused refusal) books = books_noted options entries past (put_note place refusal) books
+    -- something is noted, and nothing is due
+    leaves_after : (old : Course) (kept : Past) (turn : Turn) (new : Course) → FewKnown turn new → Books options entries kept → PicksAfter given old kept turn new →
+        Leaves options entries turn new
+    leaves_after old kept turn new few books after = picks_leave after.noted turn new few (books_at (past_of after.noted) kept after.past books) after.picks
+
+    -- archives are discarded
+    pub leaves_discards : (old : Course) (number : ℕ) (left : List Name) (turn : Turn) (new : Course) → FewKnown turn new → Books options entries (past_of old) →
+        DiscardsOn given old number left turn new → Leaves options entries turn new
+    leaves_discards old number left turn new few books (none_left none picks) = picks_leave old turn new few books picks
+    leaves_discards old number left turn new few books (discards_one rest key is turn_is same known) =
+        let now : Books options entries (past_of new) = books_course new old same books in
+        subst (λ (t : Turn). Leaves options entries t new) (sym turn_is)
+        (record { bounded = now.bounded; blames = now.blames; not_lost = λ lost. cc; goes = λ drains. cc })
+
+    -- also where one could not be
+    pub leaves_past : (old : Course) (number : ℕ) (left : List Name) (fault : HostFault) (turn : Turn) (new : Course) → FewKnown turn new → Books options entries (past_of old) →
+        DiscardsPast given old number left fault turn new → Leaves options entries turn new
+    leaves_past old number left fault turn new few books after =
+        leaves_discards after.noted number left turn new few
+        (books_at (past_of after.noted) _ after.past (books_noted options entries (past_of old) (discard_note (place_at (known_in old.known) number) fault) books)) after.on
 
     pub leaves_put : (old : Course) (number : ℕ) (answer : RecordAnswer) (turn : Turn) (new : Course) → FewKnown turn new → Books options entries (past_of old) →
         AfterPut given old number answer turn new → Leaves options entries turn new
-    leaves_put old number answer turn new few books after =
-        picks_leave after.noted turn new few
-        (books_at (past_of after.noted) _ after.past (books_put (past_of old) (place_at (known_in old.known) number) answer books)) after.picks
+    leaves_put old number (RecordAnswer.Put gone) turn new few books after = leaves_discards old number (reverse gone) turn new few books after.on
+    leaves_put old number (RecordAnswer.Refused refusal) turn new few books after =
+        leaves_after old _ turn new few (books_noted options entries (past_of old) (put_note (place_at (known_in old.known) number) refusal) books) after
+    leaves_put old number (RecordAnswer.Found row) turn new few books after = absurd after
+    leaves_put old number RecordAnswer.Done turn new few books after = absurd after
 
     -- the files of a job were fetched, or others were
-    pub leaves_fetch : (old : Course) (number : ℕ) (found : List Found) (turn : Turn) (new : Course) → FewKnown turn new → BooksFetching options entries (past_of old) number →
-        AfterFetch given old number found turn new → Leaves options entries turn new
-    leaves_fetch old number found turn new few books (agrees loaded its past known picks) =
-        picks_leave loaded turn new few (books_at (past_of loaded) _ past (books_loaded options entries (past_of old) number books)) picks
-    leaves_fetch old number found turn new few books (differs other drops past known) =
-        let now : Books options entries (past_of new) = books_at (past_of new) _ past (books_missed options entries (past_of old) number books) in
-        subst (λ (t : Turn). Leaves options entries t new) (sym drops.is)
+    pub leaves_fetch : (old : Course) (number : ℕ) (found : List Found) (turn : Turn) (new : Course) → BooksFetching options entries (past_of old) number →
+        AfterFetch old number found turn new → Leaves options entries turn new
+    leaves_fetch old number found turn new books (agrees its turn_is past known) =
+        let now : Books options entries (past_of new) = books_at (past_of new) _ past (books_loaded options entries (past_of old) number books) in
+        subst (λ (t : Turn). Leaves options entries t new) (sym turn_is)
         (record { bounded = now.bounded; blames = now.blames; not_lost = λ lost. cc; goes = λ drains. cc })
+    leaves_fetch old number found turn new books (differs other turn_is past known) =
+        let now : Books options entries (past_of new) = books_at (past_of new) _ past (books_missed options entries (past_of old) number books) in
+        subst (λ (t : Turn). Leaves options entries t new) (sym turn_is)
+        (record { bounded = now.bounded; blames = now.blames; not_lost = λ lost. cc; goes = λ drains. cc })
+
+    books_touched : (past : Past) (place : JobPlace) (answer : RecordAnswer) → Books options entries past → Books options entries (touched_by place answer past)
+    books_touched past place (RecordAnswer.Found row) books = books
+    books_touched past place (RecordAnswer.Put gone) books = books
+    books_touched past place RecordAnswer.Done books = books
+    books_touched past place (RecordAnswer.Refused refusal) books = books_noted options entries past (touch_note place refusal) books
+
+    pub leaves_touch : (old : Course) (number : ℕ) (answer : RecordAnswer) (turn : Turn) (new : Course) → FewKnown turn new → Books options entries (past_of old) →
+        AfterTouch given old number answer turn new → Leaves options entries turn new
+    leaves_touch old number answer turn new few books after =
+        leaves_after old _ turn new few (books_touched (past_of old) (place_at (known_in old.known) number) answer books) after
 
     books_dropped : (past : Past) (place : JobPlace) (answer : RecordAnswer) → Books options entries past → Books options entries (dropped_by place answer past)
     books_dropped past place (RecordAnswer.Found row) books = books
+    books_dropped past place (RecordAnswer.Put gone) books = books
     books_dropped past place RecordAnswer.Done books = books
     books_dropped past place (RecordAnswer.Refused refusal) books = books_noted options entries past (drop_note place refusal) books
 
-    pub leaves_drop : (old : Course) (number : ℕ) (answer : RecordAnswer) (turn : Turn) (new : Course) → FewKnown turn new → Books options entries (past_of old) →
-        AfterDrop given old number answer turn new → Leaves options entries turn new
-    leaves_drop old number answer turn new few books after =
-        picks_leave after.noted turn new few
-        (books_at (past_of after.noted) _ after.past (books_dropped (past_of old) (place_at (known_in old.known) number) answer books)) after.picks
+    pub leaves_drop : (old : Course) (number : ℕ) (answer : RecordAnswer) (turn : Turn) (new : Course) → Books options entries (past_of old) → AfterDrop old number answer turn new →
+        Leaves options entries turn new
+    leaves_drop old number answer turn new books after =
+        let now : Books options entries (past_of new) = books_at (past_of new) _ after.past (books_dropped (past_of old) (place_at (known_in old.known) number) answer books) in
+        subst (λ (t : Turn). Leaves options entries t new) (sym after.is)
+        (record { bounded = now.bounded; blames = now.blames; not_lost = λ lost. cc; goes = λ drains. cc })
 
     -- a row is put, or its files are archived
     leaves_put_next : (place : JobPlace) (number : ℕ) (row : Row) (new : Course) → Books options entries (past_of new) → Leaves options entries (puts place number row) new

@@ -14,7 +14,7 @@ use Rattle.run_core.specs.declared.site.Site.{Site}
 use Rattle.run_core.specs.declared.state.JobNext.{JobNext}
 use Rattle.run_core.specs.declared.state.JobPhase.{JobPhase}
 use Rattle.run_core.specs.declared.state.Kept.{Kept}
-use Rattle.run_core.specs.inner.Attempts.{many_files, weight_of_job}
+use Rattle.run_core.specs.inner.Attempts.{many_items, weight_of_job}
 use Rattle.run_core.specs.inner.Due.{CallsNext, Collects, FitsCall, IsKept, Starts, work_of}
 use Rattle.job_rows.specs.declared.row.Row.{Row}
 use Rattle.run_rules.specs.Keeps.{Keeps, keeps, keeps_none, differs}
@@ -24,9 +24,9 @@ use Rattle.std.specs.Prelude.{option_copied}
 abbrev pub weight_next : JobNext → ℕ
 weight_next (JobNext.Asks call phase) = weight_of_job phase
 weight_next (JobNext.Fails cause) = 2
-weight_next (JobNext.Gives outputs row) = 4
+weight_next (JobNext.Gives outputs row) = many_items + 4
 weight_next (JobNext.Differs outputs) = 2
-weight_next (JobNext.Repeats row) = 4
+weight_next (JobNext.Repeats row) = many_items + 4
 
 -- Before it is started
 
@@ -44,13 +44,13 @@ module _ (options : Options) (place : JobPlace) (job : Job) (number : ℕ) (stag
   starts_left (has_no_contents fault refused) = omega arith
 
 -- whatever it is, it looks at fewer files than a list can have
-many_at_most : (call : HostRequest) (phase : JobPhase) → FitsCall call phase → weight_of_job phase ≤ 2 * many_files + 6
+many_at_most : (call : HostRequest) (phase : JobPhase) → FitsCall call phase → weight_of_job phase ≤ 3 * many_items + 6
 many_at_most call (JobPhase.Filling filling) fits = omega (arith, fits)
 many_at_most call (JobPhase.Starting kept) fits = omega arith
 many_at_most call (JobPhase.Scanning kept millis) fits = omega arith
 many_at_most call (JobPhase.Reading kept reading) fits = omega (arith, fits)
 
-pub calls_at_most : (options : Options) (folder : ℕ) (next : JobNext) → CallsNext options folder next → weight_next next ≤ 2 * many_files + 6
+pub calls_at_most : (options : Options) (folder : ℕ) (next : JobNext) → CallsNext options folder next → weight_next next ≤ 3 * many_items + 6
 calls_at_most options folder (JobNext.Asks call phase) calls = many_at_most call phase calls.fits
 calls_at_most options folder (JobNext.Fails cause) calls = omega arith
 calls_at_most options folder (JobNext.Gives outputs row) calls = omega arith
@@ -58,7 +58,7 @@ calls_at_most options folder (JobNext.Differs outputs) calls = omega arith
 calls_at_most options folder (JobNext.Repeats row) calls = omega arith
 
 phase_at_most : (call : HostRequest) (phase : JobPhase) (todo : List Name) → FitsCall call phase → length (inputs_left (work_of [] call phase)) ≤ length todo →
-    weight_of_job phase ≤ many_files + 7 + length todo
+    weight_of_job phase ≤ 2 * many_items + 7 + length todo
 phase_at_most call (JobPhase.Filling filling) todo fits few =
     let turned : length (reverse filling.left) ≡ length filling.left = length-reverse filling.left in omega (arith, turned, few)
 phase_at_most call (JobPhase.Starting kept) todo fits few = omega arith
@@ -66,7 +66,7 @@ phase_at_most call (JobPhase.Scanning kept millis) todo fits few = omega arith
 phase_at_most call (JobPhase.Reading kept reading) todo fits few = omega (arith, fits)
 
 pub starts_at_most : (site : Site) (staged : Fields) (read : Heads) (todo : List Name) (next : JobNext) → Starts site staged read todo next →
-    weight_next next ≤ many_files + 7 + length todo
+    weight_next next ≤ 2 * many_items + 7 + length todo
 starts_at_most site staged read todo (JobNext.Asks call phase) starts =
     phase_at_most call phase todo starts.calls.fits (starts_left site.options.now [] _ site.folder staged read (starts.on []))
 starts_at_most site staged read todo (JobNext.Fails cause) starts = omega arith
@@ -94,8 +94,8 @@ outputs_left (output_heads_due place millis found todo read) = todo
 outputs_left work = []
 
 pub record IsLight (phase : JobPhase) (todo : List Name) : Type 0 where
-  pub by_names : weight_of_job phase ≤ 4 + length todo
-  pub by_lists : weight_of_job phase ≤ many_files + 3
+  pub by_names : weight_of_job phase ≤ many_items + 4 + length todo
+  pub by_lists : weight_of_job phase ≤ 2 * many_items + 3
 
 light : (call : HostRequest) (phase : JobPhase) (millis : ℕ) (found : List Found) (todo : List Name) (read : Heads) →
     work_of [] call phase ≡ output_heads_due [] millis found todo read → FitsCall call phase → IsLight phase todo
@@ -124,7 +124,7 @@ collects_light site kept millis found read todo call phase it =
     (reads_still site.options.now.keep [] _ (option_copied site.row) (some_start kept) millis found read (it.on [] (some_start kept) (kept_so kept)) refl) it.calls.fits
 
 pub collects_by_names : (site : Site) (kept : Kept) (millis : ℕ) (found : List Found) (read : Heads) (todo : List Name) (next : JobNext) → Collects site kept millis found read todo next →
-    weight_next next ≤ 4 + length todo
+    weight_next next ≤ many_items + 4 + length todo
 collects_by_names site kept millis found read todo (JobNext.Asks call phase) it = (collects_light site kept millis found read todo call phase it).by_names
 collects_by_names site kept millis found read todo (JobNext.Fails cause) it = omega arith
 collects_by_names site kept millis found read todo (JobNext.Gives outputs row) it = omega arith
@@ -132,7 +132,7 @@ collects_by_names site kept millis found read todo (JobNext.Differs outputs) it 
 collects_by_names site kept millis found read todo (JobNext.Repeats row) it = omega arith
 
 pub collects_by_lists : (site : Site) (kept : Kept) (millis : ℕ) (found : List Found) (read : Heads) (todo : List Name) (next : JobNext) → Collects site kept millis found read todo next →
-    weight_next next ≤ many_files + 3
+    weight_next next ≤ 2 * many_items + 3
 collects_by_lists site kept millis found read todo (JobNext.Asks call phase) it = (collects_light site kept millis found read todo call phase it).by_lists
 collects_by_lists site kept millis found read todo (JobNext.Fails cause) it = omega arith
 collects_by_lists site kept millis found read todo (JobNext.Gives outputs row) it = omega arith

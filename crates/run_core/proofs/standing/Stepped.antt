@@ -16,7 +16,7 @@ use Rattle.run_core.specs.declared.state.Phase.{Phase}
 use Rattle.run_core.specs.declared.state.Turn.{Turn}
 use Rattle.run_core.specs.inner.Inside.{setting_in}
 use Rattle.run_core.specs.inner.Anyway.{CanGoOn, job_in}
-use Rattle.run_core.specs.inner.Attempts.{StaysBounded, answers_left, many_files, most_stagings, weight_of, weight_of_past}
+use Rattle.run_core.specs.inner.Attempts.{StaysBounded, answers_left, many_items, most_stagings, weight_of, weight_of_past}
 use Rattle.run_core.specs.inner.Course.{Past, past_of}
 use Rattle.run_core.specs.inner.Follows.{AsksIn, FollowsFrom, IsLeftAfter, MakesRoom, Moves, gives_up, has_room, moves, no_room}
 use Rattle.run_core.specs.inner.Standing.{Blames, IsLostAt, RanOut, Runs, draining, lost, pairs_ahead}
@@ -102,7 +102,7 @@ module _ (given : Given) (t : List Pair) (runs_on : RunsOn given t) (old : Cours
       blames = lost_blames (entries_of longer) (past_of new);
       fewer = subst (λ w. answers_left given.options (past_of new) (lost_after (past_of new)).phase < w) (sym now_left)
           (lost_below (answers_left given.options (past_of new) (lost_after (past_of new)).phase) (length new.tickets.items) (length old.tickets.items) (rise answer)
-          ((MOST_VERTICES - old.looked_up) * 2) ((most_stagings given.options - old.folders) * (2 * many_files + 8)) (weight_of before.phase) (lost_few given.options (past_of new))
+          ((MOST_VERTICES - old.looked_up) * 2) ((most_stagings given.options - old.folders) * (3 * many_items + 8)) (weight_of before.phase) (lost_few given.options (past_of new))
           (flown_few old.tickets.items next answer new.tickets.items flies) (rise_below old old.tickets.items before.asks before.phase answer may fits));
       landed = λ ended. landed_when_none old.tickets.items next answer new.tickets.items (none_when_lost (past_of new) ended) flies;
       finished = lost_ends (past_of new);

@@ -31,7 +31,7 @@ use Rattle.run_core.specs.declared.state.Phase.{Phase}
 use Rattle.run_core.specs.declared.state.Turn.{Turn}
 use Rattle.run_core.specs.Core.{IsLanded}
 use Rattle.run_core.specs.inner.Inside.{setting_in}
-use Rattle.run_core.specs.inner.Attempts.{StaysBounded, answers_left, many_files, weight_of, weight_of_job, weight_of_past}
+use Rattle.run_core.specs.inner.Attempts.{StaysBounded, answers_left, many_items, weight_of, weight_of_job, weight_of_past}
 use Rattle.run_core.specs.inner.Course.{Past, past_of}
 use Rattle.run_core.specs.inner.Follows.{AsksOf, FollowsFrom}
 use Rattle.run_core.specs.inner.Standing.{Blames, RanOut, Runs, SettlesRightly, pairs_ahead}
@@ -194,6 +194,8 @@ some_weight (Phase.Finding number) = omega arith
 some_weight (Phase.Putting number) = omega arith
 some_weight (Phase.Fetching number) = omega arith
 some_weight (Phase.Dropping number) = omega arith
+some_weight (Phase.Touching number) = omega arith
+some_weight (Phase.Discarding number left) = omega arith
 some_weight (Phase.Storing number row) = omega arith
 some_weight (Phase.Staging number) = omega arith
 some_weight (Phase.Working number phase) = some_weight_of_job phase
@@ -236,7 +238,7 @@ ahead_now past (Phase.Ended outcome) goes asks = absurd (asks outcome refl)
 ahead_now past phase goes asks = refl
 
 pub lost_below : (a new flown rises rows stagings weight : ℕ) → a ≤ new → new ≤ flown + rises → rises < weight →
-    a < rows + (stagings + flown * (many_files + 4)) + weight
+    a < rows + (stagings + flown * (2 * many_items + 4)) + weight
 lost_below a new flown rises rows stagings weight few risen below = omega (arith, few, risen, below)
 
 pub flies_if : (old : List ℕ) (next : Request) (answer : Answer) (new : List ℕ) → FliesAfter old next answer new → next ≢ Request.Finished → new ≡ flying_after old answer

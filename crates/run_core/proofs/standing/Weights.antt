@@ -16,7 +16,7 @@ use Rattle.run_core.specs.declared.state.JobNext.{JobNext}
 use Rattle.run_core.specs.declared.state.Kept.{Kept}
 use Rattle.run_core.specs.declared.state.Phase.{Phase}
 use Rattle.run_core.specs.declared.state.Turn.{Turn}
-use Rattle.run_core.specs.inner.Attempts.{IsBounded, answers_left, many_files, most_stagings, tries_of, weight_of_past}
+use Rattle.run_core.specs.inner.Attempts.{IsBounded, answers_left, many_items, most_stagings, tries_of, weight_of_past}
 use Rattle.run_core.specs.inner.Course.{GivesUp, Past, TakesOut, again, known_in, past_of, too_often, with_staging, with_start, with_answer, place_at, with_load, with_loss}
 use Rattle.run_core.specs.inner.Knows.{IsUnfolded, LearnsUnlessOver, fails as unfold_fails, knows as unfold_knows}
 use Rattle.run_core.specs.inner.Picks.{AfterTemporary, Chooses, Delivers, Picks, Stages, Turns, asks, chooses, delivers, drains, ends_so, fails, gives, has_result, stages, succeeds_at_once, waits_for_one, Finds, fetches, finds, LearnsRow, PutsOrPicks, mismatches, repeats}
@@ -53,7 +53,7 @@ folders_at_most options past bounded =
     steps a b c d one two three = omega (arith, one, two, three)
 
 falls_by_one : (most folders flown : ℕ) → folders + 1 ≤ most →
-    (most - (folders + 1)) * (2 * many_files + 8) + flown + (2 * many_files + 8) ≤ (most - folders) * (2 * many_files + 8) + flown
+    (most - (folders + 1)) * (3 * many_items + 8) + flown + (3 * many_items + 8) ≤ (most - folders) * (3 * many_items + 8) + flown
 falls_by_one most folders flown within = omega (arith, within)
 
 -- beside the rows that are still looked for
@@ -68,43 +68,43 @@ rows_left past = (MOST_VERTICES - past.looked_up) * 2
 
 -- a staging is one of those
 pub staging_falls : (options : Options) (past : Past) (number : ℕ) → IsBounded options (with_staging number past) →
-    weight_of_past options (with_staging number past) + (2 * many_files + 8) ≤ weight_of_past options past
+    weight_of_past options (with_staging number past) + (3 * many_items + 8) ≤ weight_of_past options past
 staging_falls options past number bounded =
-    beside_less (rows_left past) _ _ (2 * many_files + 8)
-    (falls_by_one (most_stagings options) past.folders (length past.tickets * (many_files + 4)) (folders_at_most options (with_staging number past) bounded))
+    beside_less (rows_left past) _ _ (3 * many_items + 8)
+    (falls_by_one (most_stagings options) past.folders (length past.tickets * (2 * many_items + 4)) (folders_at_most options (with_staging number past) bounded))
 
 -- and a fetch, which is what it is or not
 pub loss_falls : (options : Options) (past : Past) (number : ℕ) → IsBounded options (with_loss number past) →
-    weight_of_past options (with_loss number past) + (2 * many_files + 8) ≤ weight_of_past options past
+    weight_of_past options (with_loss number past) + (3 * many_items + 8) ≤ weight_of_past options past
 loss_falls options past number bounded =
-    beside_less (rows_left past) _ _ (2 * many_files + 8)
-    (falls_by_one (most_stagings options) past.folders (length past.tickets * (many_files + 4)) (folders_at_most options (with_loss number past) bounded))
+    beside_less (rows_left past) _ _ (3 * many_items + 8)
+    (falls_by_one (most_stagings options) past.folders (length past.tickets * (2 * many_items + 4)) (folders_at_most options (with_loss number past) bounded))
 
 pub load_falls : (options : Options) (past : Past) (number : ℕ) → IsBounded options (with_loss number past) →
-    weight_of_past options (with_load number past) + (2 * many_files + 8) ≤ weight_of_past options past
+    weight_of_past options (with_load number past) + (3 * many_items + 8) ≤ weight_of_past options past
 load_falls options past number bounded = loss_falls options past number bounded
 
 -- one child more
 
-more_by_one : (stagings flown more : ℕ) → more ≡ flown + 1 → stagings + more * (many_files + 4) ≡ stagings + flown * (many_files + 4) + (many_files + 4)
+more_by_one : (stagings flown more : ℕ) → more ≡ flown + 1 → stagings + more * (2 * many_items + 4) ≡ stagings + flown * (2 * many_items + 4) + (2 * many_items + 4)
 more_by_one stagings flown more is = omega (arith, is)
 
 pub start_rises : (options : Options) (past : Past) (number : ℕ) (kept : Kept) (ticket : ℕ) →
-    weight_of_past options (with_start number kept ticket past) ≡ weight_of_past options past + (many_files + 4)
+    weight_of_past options (with_start number kept ticket past) ≡ weight_of_past options past + (2 * many_items + 4)
 start_rises options past number kept ticket =
-    beside_same (rows_left past) _ _ (many_files + 4)
-    (more_by_one ((most_stagings options - past.folders) * (2 * many_files + 8)) (length past.tickets) (length (past.tickets ++ ticket ∷ []))
+    beside_same (rows_left past) _ _ (2 * many_items + 4)
+    (more_by_one ((most_stagings options - past.folders) * (3 * many_items + 8)) (length past.tickets) (length (past.tickets ++ ticket ∷ []))
     (length-append past.tickets (ticket ∷ [])))
 
 -- and one less
 pub landing_falls : (options : Options) (ticket : ℕ) (flight : Flight) (old new : Past) → TakesOut ticket flight old new →
-    weight_of_past options new + (many_files + 4) ≡ weight_of_past options old
+    weight_of_past options new + (2 * many_items + 4) ≡ weight_of_past options old
 landing_falls options ticket flight old new taken =
     let left : length (remove old.tickets taken.index) + 1 ≡ length old.tickets =
     length-remove old.tickets taken.index (slice_get_within old.tickets taken.index ticket taken.ticket_there) in
-    subst (λ (p : Past). weight_of_past options p + (many_files + 4) ≡ weight_of_past options old) (sym taken.is)
-    (sym (beside_same (rows_left old) _ _ (many_files + 4)
-    (more_by_one ((most_stagings options - old.folders) * (2 * many_files + 8)) (length (remove old.tickets taken.index)) (length old.tickets) (sym left))))
+    subst (λ (p : Past). weight_of_past options p + (2 * many_items + 4) ≡ weight_of_past options old) (sym taken.is)
+    (sym (beside_same (rows_left old) _ _ (2 * many_items + 4)
+    (more_by_one ((most_stagings options - old.folders) * (3 * many_items + 8)) (length (remove old.tickets taken.index)) (length old.tickets) (sym left))))
 
 -- the row of a job was looked for, which was not before
 one_row_less : (most before number jobs : ℕ) → before ≤ number → number + 1 ≤ most → (most - (number + 1)) * 2 + jobs + 2 ≤ (most - before) * 2 + jobs
@@ -113,7 +113,7 @@ one_row_less most before number jobs left within = omega (arith, left, within)
 pub answer_falls : (options : Options) (past : Past) (number : ℕ) (answer : RecordAnswer) → past.looked_up ≤ number → number + 1 ≤ MOST_VERTICES →
     weight_of_past options (with_answer number answer None past) + 2 ≤ weight_of_past options past
 answer_falls options past number answer left within =
-    one_row_less MOST_VERTICES past.looked_up number ((most_stagings options - past.folders) * (2 * many_files + 8) + length past.tickets * (many_files + 4)) left within
+    one_row_less MOST_VERTICES past.looked_up number ((most_stagings options - past.folders) * (3 * many_items + 8) + length past.tickets * (2 * many_items + 4)) left within
 
 -- What comes next
 
@@ -205,6 +205,7 @@ module _ (options : Options) (given : Given) where
   pub row_learned_same : (place : JobPlace) (answer : RecordAnswer) (old new : Course) → (old.end ≡ None → KnowsSome old) → LearnsRow place answer old new → Before new ≡ Before old
   row_learned_same place (RecordAnswer.Found (Some row)) old new knows learns = unless_over_same old new _ knows learns
   row_learned_same place (RecordAnswer.Found None) old new knows learns = ap (weight_of_past options) learns.0
+  row_learned_same place (RecordAnswer.Put gone) old new knows learns = ap (weight_of_past options) learns.0
   row_learned_same place RecordAnswer.Done old new knows learns = ap (weight_of_past options) learns.0
   row_learned_same place (RecordAnswer.Refused refusal) old new knows learns = ap (weight_of_past options) learns.0
 
@@ -219,15 +220,15 @@ module _ (options : Options) (given : Given) where
 
   -- the row of a job is kept next
   kept_few : (keep : Bool) (folder : Name) (place : JobPlace) (number : ℕ) (row : Row) (past : Past) →
-      answers_left options past (keeps_row keep folder place number row).phase ≤ weight_of_past options past + 4
-  kept_few true folder place number row past = same_at_most (weight_of_past options past + 4)
+      answers_left options past (keeps_row keep folder place number row).phase ≤ weight_of_past options past + (many_items + 4)
+  kept_few true folder place number row past = same_at_most (weight_of_past options past + (many_items + 4))
   kept_few false folder place number row past = fewer (weight_of_past options past)
     where
-      fewer : (w : ℕ) → w + 3 ≤ w + 4
+      fewer : (w : ℕ) → w + (many_items + 3) ≤ w + (many_items + 4)
       fewer w = omega arith
 
   -- a job's outputs are there: its row is kept next, if one is made of it
-  given_from : (place : JobPlace) (folder : ℕ) (one old : Course) (number : ℕ) (row : Option Row) (turn : Turn) (new : Course) (most : ℕ) → weight_of_past options (past_of one) ≡ Before old → 2 ≤ most → 4 ≤ most →
+  given_from : (place : JobPlace) (folder : ℕ) (one old : Course) (number : ℕ) (row : Option Row) (turn : Turn) (new : Course) (most : ℕ) → weight_of_past options (past_of one) ≡ Before old → 2 ≤ most → many_items + 4 ≤ most →
       PutsOrPicks given place folder one number row turn new → answers_left options (past_of new) turn.phase ≤ Before old + most
   given_from place folder one old number None turn new most same two four picks = picks_from one old turn new most same two picks
   given_from place folder one old number (Some row) turn new most same two four put =
@@ -236,7 +237,7 @@ module _ (options : Options) (given : Given) where
       (weight_of_past options (past_of new)) (Before old) most (kept_few given.options.keep (out_folder given.options.work folder) place number row (past_of new)) four
       (ap (weight_of_past options) put.past ∙ same))
     where
-      four_of : (left a b most : ℕ) → left ≤ a + 4 → 4 ≤ most → a ≡ b → left ≤ b + most
+      four_of : (left a b most : ℕ) → left ≤ a + (many_items + 4) → many_items + 4 ≤ most → a ≡ b → left ≤ b + most
       four_of left a b most few four is = omega (arith, few, four, is)
 
   pub turns_few : (old : Course) (number : ℕ) (next : JobNext) (turn : Turn) (new : Course) (most : ℕ) → 2 ≤ most → weight_next next ≤ most →

@@ -42,31 +42,33 @@ StaysBounded options past (Phase.Staging number) = IsBounded options (with_stagi
 StaysBounded options past (Phase.Fetching number) = IsBounded options (with_loss number past)
 StaysBounded options past phase = IsBounded options past
 
--- a phase looks at fewer files than a list can have
-abbrev pub many_files : ℕ
-many_files = 2 ^ 64
+-- a phase looks at fewer files, and a put brings fewer keys
+abbrev pub many_items : ℕ
+many_items = 2 ^ 64
 
 abbrev pub weight_of_job : JobPhase → ℕ
-weight_of_job (JobPhase.Filling filling) = many_files + 7 + length filling.left
-weight_of_job (JobPhase.Starting kept) = many_files + 7
-weight_of_job (JobPhase.Scanning kept millis) = many_files + 4
-weight_of_job (JobPhase.Reading kept reading) = 4 + length reading.left
+weight_of_job (JobPhase.Filling filling) = 2 * many_items + 7 + length filling.left
+weight_of_job (JobPhase.Starting kept) = 2 * many_items + 7
+weight_of_job (JobPhase.Scanning kept millis) = 2 * many_items + 4
+weight_of_job (JobPhase.Reading kept reading) = many_items + 4 + length reading.left
 
 abbrev pub weight_of : Phase → ℕ
 weight_of (Phase.Measuring measuring) = 2 + length measuring.left
 weight_of (Phase.Finding job) = 2
-weight_of (Phase.Putting job) = 3
+weight_of (Phase.Putting job) = many_items + 3
 weight_of (Phase.Fetching job) = 2
-weight_of (Phase.Dropping job) = 3
+weight_of (Phase.Touching job) = 3
+weight_of (Phase.Dropping job) = 4
+weight_of (Phase.Discarding job left) = 3 + length left
 weight_of (Phase.Staging job) = 2
 weight_of (Phase.Working job phase) = weight_of_job phase
-weight_of (Phase.Storing job row) = 4
+weight_of (Phase.Storing job row) = many_items + 4
 weight_of phase = 1
 
--- each row is looked for once; each child in flight ends, is scanned, read, archived and put
+-- each row is looked for once; each child in flight ends, is scanned, read, archived and put, and what that takes away is discarded
 abbrev pub weight_of_past : Options → Past → ℕ
 weight_of_past options past =
-    (MOST_VERTICES - past.looked_up) * 2 + ((most_stagings options - past.folders) * (2 * many_files + 8) + length past.tickets * (many_files + 4))
+    (MOST_VERTICES - past.looked_up) * 2 + ((most_stagings options - past.folders) * (3 * many_items + 8) + length past.tickets * (2 * many_items + 4))
 
 -- how many answers come at most; after memory ran out, the end of each child in flight
 abbrev pub answers_left : Options → Past → Phase → ℕ

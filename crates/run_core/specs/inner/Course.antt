@@ -105,17 +105,21 @@ with_note note past = record past { notes = past.notes ++ note ∷ [] }
 abbrev pub with_plan : ℕ → Planned → Past → Past
 with_plan after made past = record past { planned = Some made; plans = past.plans ++ record { after = after; cost = made.cost } ∷ [] }
 
+-- what went wrong so for the job at a place
+abbrev pub note_at : JobPlace → NoteKind → Note
+note_at place kind = record { place = place; kind = kind }
+
 -- the record refused to keep the row of the job at a place
 abbrev pub put_note : JobPlace → RecordRefusal → Note
-put_note place refusal = record { place = place; kind = NoteKind.Put refusal }
+put_note place refusal = note_at place (NoteKind.Put refusal)
 
 -- the files of the job at a place could not be archived
 abbrev pub store_note : JobPlace → HostFault → Note
-store_note place fault = record { place = place; kind = NoteKind.Store fault }
+store_note place fault = note_at place (NoteKind.Store fault)
 
 -- a call for the job at a place failed once the end was settled
 abbrev pub late_note : JobPlace → HostFault → Note
-late_note place fault = record { place = place; kind = NoteKind.Late fault }
+late_note place fault = note_at place (NoteKind.Late fault)
 
 -- a call for the job at a place failed: that settles the end, and where it was settled before, it is noted
 abbrev pub fault_after : Option (Result Outcome RunFault) → JobPlace → HostFault → Past → Past
@@ -151,7 +155,15 @@ with_loss number past = record past {
 
 -- the record refused to note that the archive of the row of the job at a place is gone
 abbrev pub drop_note : JobPlace → RecordRefusal → Note
-drop_note place refusal = record { place = place; kind = NoteKind.Drop refusal }
+drop_note place refusal = note_at place (NoteKind.Drop refusal)
+
+-- or that it was used
+abbrev pub touch_note : JobPlace → RecordRefusal → Note
+touch_note place refusal = note_at place (NoteKind.Touch refusal)
+
+-- an archive could not be discarded for the job at a place
+abbrev pub discard_note : JobPlace → HostFault → Note
+discard_note place fault = note_at place (NoteKind.Discard fault)
 
 abbrev pub with_staging : ℕ → Past → Past
 with_staging number past = record past { folders = past.folders + 1; jobs = staged_in number (past.folders + 1) past.jobs }

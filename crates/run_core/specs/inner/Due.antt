@@ -20,7 +20,7 @@ use Rattle.run_rules.specs.declared.setting.Options.{Options}
 use Rattle.job_graph.specs.Words.{Name, Fields, JobPlace}
 use Rattle.collected_outputs.specs.Contents.{Heads}
 use Rattle.run_rules.specs.CollectsOn.{CollectsOn}
-use Rattle.run_rules.specs.Events.{Event, job_failed, job_succeeded, Work, nothing_due, input_heads_due, start_due, scan_due, output_heads_due, Started, row_differs, put_due, job_repeated, store_due, drop_due}
+use Rattle.run_rules.specs.Events.{Event, job_failed, job_succeeded, Work, nothing_due, input_heads_due, start_due, scan_due, output_heads_due, Started, row_differs, put_due, job_repeated, store_due, discard_due, drop_due, touch_due}
 use Rattle.run_rules.specs.Folders.{out_folder, runtime_of}
 use Rattle.job_graph.specs.Jobs.{Job}
 use Rattle.run_rules.specs.StartsOn.{StartsOn}
@@ -52,7 +52,9 @@ call_for options folder (output_heads_due place millis found [] read) = None
 call_for options folder (output_heads_due place millis found (name ∷ todo) read) =
     Some (HostRequest.Head (path_in (out_folder options.work folder) name) (limit_of name))
 call_for options folder (put_due place row) = None
+call_for options folder (touch_due place its_key) = None
 call_for options folder (drop_due place its_key) = None
+call_for options folder (discard_due place its_key more) = None
 call_for options folder (store_due place row) = None
 
 -- the work that comes next, where an archive is kept or not

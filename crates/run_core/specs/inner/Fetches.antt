@@ -14,10 +14,11 @@ use Rattle.run_core.specs.declared.state.Given.{Given}
 use Rattle.run_core.specs.declared.state.Phase.{Phase}
 use Rattle.run_core.specs.declared.state.Turn.{Turn}
 pub use Rattle.run_core.specs.inner.Archives.{archived_in}
-use Rattle.run_core.specs.inner.Course.{key_in, known_in}
+use Rattle.run_core.specs.inner.Course.{key_in, known_in, place_at}
 use Rattle.run_core.specs.inner.FoundRows.{row_in}
 use Rattle.run_core.specs.inner.JobStates.{waits_in}
 use Rattle.run_core.specs.inner.Marks.{is_load, marks_in}
+use Rattle.run_core.specs.inner.Turn.{tells_record}
 
 -- whether the job of a number has an archived row, whose archive was not found to be another
 abbrev pub can_load : Course → ℕ → Bool
@@ -59,8 +60,10 @@ AreOf (Some row) found = AreTheSame row.files found
 abbrev pub AgreesAt : Course → ℕ → List Found → Type 0
 AgreesAt course number found = AreOf (row_in course.rows number) found
 
--- the archive of the row of the job of a number is dropped
-pub record Drops (course : Course) (number : ℕ) (turn : Turn) : Type 0 where
-  pub job : Job
-  pub known : slice_get (known_in course.known) number ≡ Some job
-  pub is : turn ≡ record { asks = Request.Record job.place (RecordRequest.DropArchive (key_in course.rows number)); phase = Phase.Dropping number }
+-- the archive of the row of the job of a number was used
+abbrev pub touches : Course → ℕ → Turn
+touches course number = tells_record (place_at (known_in course.known) number) (RecordRequest.Touch (key_in course.rows number)) (Phase.Touching number)
+
+-- or it is dropped
+abbrev pub drops : Course → ℕ → Turn
+drops course number = tells_record (place_at (known_in course.known) number) (RecordRequest.DropArchive (key_in course.rows number)) (Phase.Dropping number)

@@ -20,8 +20,9 @@ use Rattle.run_core.specs.declared.state.JobPhase.{JobPhase}
 use Rattle.run_core.specs.declared.state.Phase.{Phase}
 use Rattle.run_core.specs.declared.state.Turn.{Turn}
 use Rattle.run_core.specs.inner.Course.{Past, TellsAlike, known_in, past_of, place_at, store_note, with_note}
+use Rattle.run_core.specs.inner.Discards.{AfterDrop, AfterPut, DiscardsOn, DiscardsPast}
 use Rattle.run_core.specs.inner.Measures.{TakesMeasure}
-use Rattle.run_core.specs.inner.Picks.{AfterChild, AfterFault, AfterFind, AfterInputHead, AfterListing, AfterOutputHead, AfterStaging, AfterStart, AfterPut, PutsRow, AfterFetch, AfterDrop}
+use Rattle.run_core.specs.inner.Picks.{AfterChild, AfterFault, AfterFind, AfterInputHead, AfterListing, AfterOutputHead, AfterStaging, AfterStart, PutsRow, AfterFetch, AfterTouch}
 use Rattle.run_core.specs.inner.Planning.{Replans}
 use Rattle.run_core.specs.inner.Standing.{pairs_ahead}
 use Rattle.run_core.specs.inner.Turn.{ends, lost_after, succeeds}
@@ -47,7 +48,9 @@ abbrev pub AsksOf : Course → Request → Phase → Type 0
 AsksOf course (Request.Host place (HostRequest.Measure path)) (Phase.Measuring measuring) = Unit {0}
 AsksOf course (Request.Record place (RecordRequest.Find key)) (Phase.Finding job) = job < length (known_in course.known)
 AsksOf course (Request.Record place (RecordRequest.Put row)) (Phase.Putting job) = job < length (known_in course.known)
+AsksOf course (Request.Record place (RecordRequest.Touch key)) (Phase.Touching job) = job < length (known_in course.known)
 AsksOf course (Request.Record place (RecordRequest.DropArchive key)) (Phase.Dropping job) = job < length (known_in course.known)
+AsksOf course (Request.Host place (HostRequest.Discard key)) (Phase.Discarding job left) = job < length (known_in course.known)
 AsksOf course (Request.Host place (HostRequest.Fetch key number files)) (Phase.Fetching job) = job < length (known_in course.known)
 AsksOf course (Request.Host place (HostRequest.Stage plan folder)) (Phase.Staging job) = CanStage course job
 AsksOf course (Request.Host place (HostRequest.Head path limit)) (Phase.Working job (JobPhase.Filling filling)) = job < length course.jobs
@@ -61,10 +64,11 @@ AsksOf course Request.Finished (Phase.Ended outcome) = Unit {0}
 AsksOf course (Request.Host place (HostRequest.Store key folder files)) (Phase.Storing job row) = job < length (known_in course.known)
 AsksOf course asks phase = ⊥
 
--- the job whose files are archived is known
-abbrev pub StoresKnown : Course → Phase → Type 0
-StoresKnown course (Phase.Storing job row) = job < length (known_in course.known)
-StoresKnown course phase = Unit {0}
+-- the job that an archive is made for, or discarded, is known
+abbrev pub IsForKnown : Course → Phase → Type 0
+IsForKnown course (Phase.Storing job row) = job < length (known_in course.known)
+IsForKnown course (Phase.Discarding job left) = job < length (known_in course.known)
+IsForKnown course phase = Unit {0}
 
 abbrev pub AsksIn : Course → Turn → Type 0
 AsksIn course turn = AsksOf course turn.asks turn.phase
@@ -80,13 +84,14 @@ asked_at (Request.Host place call) = place
 asked_at (Request.Record place command) = place
 asked_at Request.Finished = []
 
--- a call failed; after a failed collect nobody waits for the children in flight any more, and where a job's files could not be archived, its row
--- is put all the same
+-- a call failed; after a failed collect nobody waits for the children in flight any more, where a job's files could not be archived, its row
+-- is put all the same, and where an archive could not be discarded, the others are
 abbrev pub AfterFailure : Given → Course → Request → Phase → HostFault → Turn → Course → Type 0
 AfterFailure given old asks Phase.Collecting fault turn new = (turn ≡ ends (Err (RunFault.Host fault old.tickets.items))) × (new.known ≡ old.known) × (new.tickets.items ≡ []) × TellsAlike (past_of old) (past_of new)
 AfterFailure given old asks Phase.Draining fault turn new = (turn ≡ ends (Err RunFault.OutOfMemory)) × (new.tickets.items ≡ [])
 AfterFailure given old asks (Phase.Storing number row) fault turn new =
     PutsRow old number (record row { archived = false }) (with_note (store_note (place_at (known_in old.known) number) fault) (past_of old)) turn new
+AfterFailure given old asks (Phase.Discarding number left) fault turn new = DiscardsPast given old number left fault turn new
 AfterFailure given old asks phase fault turn new = AfterFault given old (asked_at asks) fault turn new
 
 -- the open work on a job goes on, by what it waits for
@@ -101,20 +106,22 @@ FollowsWork given old number work answer turn new = ⊥
 abbrev pub FollowsIn : Given → Course → Phase → HostAnswer → Request → Turn → Course → Type 0
 FollowsIn given old phase (HostAnswer.Failed fault) asks turn new = AfterFailure given old asks phase fault turn new
 FollowsIn given old (Phase.Measuring measuring) (HostAnswer.Measured measure) asks turn new = TakesMeasure given old measuring measure turn new
-FollowsIn given old (Phase.Fetching number) (HostAnswer.Fetched found) asks turn new = AfterFetch given old number found turn new
+FollowsIn given old (Phase.Fetching number) (HostAnswer.Fetched found) asks turn new = AfterFetch old number found turn new
 FollowsIn given old (Phase.Staging number) HostAnswer.Done (Request.Host place (HostRequest.Stage plan folder)) turn new = AfterStaging given old number plan.value turn new
 FollowsIn given old (Phase.Working number work) answer asks turn new = FollowsWork given old number work answer turn new
 FollowsIn given old Phase.Collecting (HostAnswer.Ended ending) asks turn new = AfterChild given old ending turn new
 FollowsIn given old Phase.Draining (HostAnswer.Ended ending) asks turn new = Drains old ending turn new
 FollowsIn given old (Phase.Delivering outputs) HostAnswer.Done asks turn new = (turn ≡ succeeds outputs) × Replans given old new
 FollowsIn given old (Phase.Storing number row) HostAnswer.Done asks turn new = PutsRow old number (record row { archived = true }) (past_of old) turn new
+FollowsIn given old (Phase.Discarding number left) HostAnswer.Done asks turn new = DiscardsOn given old number left turn new
 FollowsIn given old phase answer asks turn new = ⊥
 
 -- what follows from an answer of the record's
 abbrev pub FollowsRecord : Given → Course → Phase → RecordAnswer → Turn → Course → Type 0
 FollowsRecord given old (Phase.Finding number) answer turn new = AfterFind given old number answer turn new
 FollowsRecord given old (Phase.Putting number) answer turn new = AfterPut given old number answer turn new
-FollowsRecord given old (Phase.Dropping number) answer turn new = AfterDrop given old number answer turn new
+FollowsRecord given old (Phase.Touching number) answer turn new = AfterTouch given old number answer turn new
+FollowsRecord given old (Phase.Dropping number) answer turn new = AfterDrop old number answer turn new
 FollowsRecord given old phase answer turn new = ⊥
 
 abbrev pub FollowsFrom : Given → Course → Turn → Answer → Turn → Course → Type 0
@@ -133,19 +140,26 @@ AnswersWork work answer = ⊥
 abbrev pub IsOfAFind : RecordAnswer → Type 0
 IsOfAFind (RecordAnswer.Found row) = Unit {0}
 IsOfAFind (RecordAnswer.Refused refusal) = Unit {0}
-IsOfAFind RecordAnswer.Done = ⊥
+IsOfAFind answer = ⊥
 
--- and a put, or a drop
+-- and a put
 abbrev pub IsOfAPut : RecordAnswer → Type 0
-IsOfAPut RecordAnswer.Done = Unit {0}
+IsOfAPut (RecordAnswer.Put gone) = Unit {0}
 IsOfAPut (RecordAnswer.Refused refusal) = Unit {0}
-IsOfAPut (RecordAnswer.Found row) = ⊥
+IsOfAPut answer = ⊥
 
--- the row of a known job is looked for, or put, and the record can answer so
+-- and a touch, or a drop
+abbrev pub IsDoneOrNot : RecordAnswer → Type 0
+IsDoneOrNot RecordAnswer.Done = Unit {0}
+IsDoneOrNot (RecordAnswer.Refused refusal) = Unit {0}
+IsDoneOrNot answer = ⊥
+
+-- the row of a known job is looked for, or put, or its archive is told of, and the record can answer so
 abbrev pub WaitsForRecord : Course → Phase → RecordAnswer → Type 0
 WaitsForRecord course (Phase.Finding number) answer = (number < length (known_in course.known)) × IsOfAFind answer
 WaitsForRecord course (Phase.Putting number) answer = (number < length (known_in course.known)) × IsOfAPut answer
-WaitsForRecord course (Phase.Dropping number) answer = (number < length (known_in course.known)) × IsOfAPut answer
+WaitsForRecord course (Phase.Touching number) answer = (number < length (known_in course.known)) × IsDoneOrNot answer
+WaitsForRecord course (Phase.Dropping number) answer = (number < length (known_in course.known)) × IsDoneOrNot answer
 WaitsForRecord course phase answer = ⊥
 
 abbrev pub IsStaging : Request → Type 0

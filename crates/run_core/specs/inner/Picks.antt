@@ -40,8 +40,8 @@ use Rattle.run_core.specs.declared.state.Kept.{Kept}
 use Rattle.run_core.specs.declared.state.Phase.{Phase}
 use Rattle.run_core.specs.declared.state.Reading.{Reading}
 use Rattle.run_core.specs.declared.state.Turn.{Turn}
-use Rattle.run_core.specs.inner.Course.{GivesUp, TakesOut, families_in, fetched_in, known_in, number_in, past_of, place_at, with_answer, with_end, with_staging, with_start, failure_in, put_note, with_note, with_hand, with_load, with_loss, drop_note, Past, TellsAlike, with_fault}
-use Rattle.run_core.specs.inner.Fetches.{AgreesAt, Drops, Fetches, IsNextToFetch, NoneToFetch}
+use Rattle.run_core.specs.inner.Course.{GivesUp, TakesOut, families_in, fetched_in, known_in, number_in, past_of, place_at, with_answer, with_end, with_staging, with_start, failure_in, with_note, with_hand, with_load, with_loss, touch_note, Past, TellsAlike, with_fault}
+use Rattle.run_core.specs.inner.Fetches.{AgreesAt, Fetches, IsNextToFetch, NoneToFetch, drops, touches}
 use Rattle.run_core.specs.inner.Due.{CollectsFirst, CollectsPast, Scans, Starts, StartsPast}
 use Rattle.run_core.specs.inner.JobStates.{IsLowest, NoneReady, state_at}
 use Rattle.run_core.specs.inner.Marks.{marks_in}
@@ -269,14 +269,10 @@ pub record AfterFind (given : Given) (old : Course) (number : ℕ) (answer : Rec
   pub learns : LearnsRow (place_at (known_in old.known) number) answer noted learned
   pub picks : Picks given learned turn new
 
--- the record has answered whether the row of the job of a number is kept
-abbrev pub noted_by : JobPlace → RecordAnswer → Past → Past
-noted_by place (RecordAnswer.Refused refusal) past = with_note (put_note place refusal) past
-noted_by place answer past = past
-
-pub record AfterPut (given : Given) (old : Course) (number : ℕ) (answer : RecordAnswer) (turn : Turn) (new : Course) : Type 0 where
+-- nothing is due, once this is kept of the events
+pub record PicksAfter (given : Given) (old : Course) (kept : Past) (turn : Turn) (new : Course) : Type 0 where
   pub noted : Course
-  pub past : past_of noted ≡ noted_by (place_at (known_in old.known) number) answer (past_of old)
+  pub past : past_of noted ≡ kept
   pub known : noted.known ≡ old.known
   pub picks : Picks given noted turn new
 
@@ -286,25 +282,22 @@ pub record PutsRow (old : Course) (number : ℕ) (row : Row) (kept : Past) (turn
   pub past : past_of new ≡ kept
   pub known : new.known ≡ old.known
 
--- the files of the row of the job of a number were fetched, or others were there: its archive is dropped next
-pub data AfterFetch (given : Given) (old : Course) (number : ℕ) (found : List Found) (turn : Turn) (new : Course) : Type 0 where
-  agrees : (loaded : Course) → AgreesAt old number found → past_of loaded ≡ with_load number (past_of old) → loaded.known ≡ old.known → Picks given loaded turn new →
-      AfterFetch given old number found turn new
-  differs : (AgreesAt old number found → ⊥) → Drops old number turn → past_of new ≡ with_loss number (past_of old) → new.known ≡ old.known →
-      AfterFetch given old number found turn new
+-- the files of the row of the job of a number were fetched: that its archive was used is told next; or others were there, and it is dropped next
+pub data AfterFetch (old : Course) (number : ℕ) (found : List Found) (turn : Turn) (new : Course) : Type 0 where
+  agrees : AgreesAt old number found → turn ≡ touches old number → past_of new ≡ with_load number (past_of old) → new.known ≡ old.known →
+      AfterFetch old number found turn new
+  differs : (AgreesAt old number found → ⊥) → turn ≡ drops old number → past_of new ≡ with_loss number (past_of old) → new.known ≡ old.known →
+      AfterFetch old number found turn new
 
--- the record has answered whether it is noted that the archive is gone
-abbrev pub dropped_by : JobPlace → RecordAnswer → Past → Past
-dropped_by place (RecordAnswer.Refused refusal) past = with_note (drop_note place refusal) past
-dropped_by place answer past = past
+-- the record has answered whether it is noted that the archive was used
+abbrev pub touched_by : JobPlace → RecordAnswer → Past → Past
+touched_by place (RecordAnswer.Refused refusal) past = with_note (touch_note place refusal) past
+touched_by place answer past = past
 
-pub record AfterDrop (given : Given) (old : Course) (number : ℕ) (answer : RecordAnswer) (turn : Turn) (new : Course) : Type 0 where
-  pub noted : Course
-  pub past : past_of noted ≡ dropped_by (place_at (known_in old.known) number) answer (past_of old)
-  pub known : noted.known ≡ old.known
-  pub picks : Picks given noted turn new
+abbrev pub AfterTouch : Given → Course → ℕ → RecordAnswer → Turn → Course → Type 0
+AfterTouch given old number answer turn new = PicksAfter given old (touched_by (place_at (known_in old.known) number) answer (past_of old)) turn new
 
--- a call for the job at this place, other than a collect or a store, failed
+-- a call for the job at this place, other than a collect, a store or a discard, failed
 pub record AfterFault (given : Given) (old : Course) (place : JobPlace) (fault : HostFault) (turn : Turn) (new : Course) : Type 0 where
   pub settled : Course
   pub past : past_of settled ≡ with_fault place fault (past_of old)

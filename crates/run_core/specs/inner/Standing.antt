@@ -1,5 +1,5 @@
 -- Where the machine is in its run.
-use Rattle.std.specs.Prelude.{◌≡◌, ◌≢◌, ◌<◌, ◌≤◌, ◌+◌, ℕ, true, false, List, [], ◌∷◌, ◌++◌, Some, None, Result, Ok, Err, IfErr, length, vec_len, vec_capacity}
+use Rattle.std.specs.Prelude.{◌≡◌, ◌≢◌, ◌<◌, ◌≤◌, ◌+◌, ℕ, true, false, List, [], ◌∷◌, ◌++◌, Some, None, Result, Ok, Err, IfErr, length, reverse, vec_len, vec_capacity}
 use Rattle.plan_checker.specs.declared.plan.Mark.{Mark}
 use Rattle.proc_host.specs.declared.call.Entry.{Entry}
 use Rattle.proc_host.specs.declared.call.HostRequest.{HostRequest}
@@ -19,7 +19,7 @@ use Rattle.run_rules.specs.Blame.{BlamesRightly, IsToBlame}
 use Rattle.run_rules.specs.Delivered.{located}
 use Rattle.run_rules.specs.End.{End}
 use Rattle.run_rules.specs.EndsSo.{EndsSo}
-use Rattle.run_rules.specs.Events.{Event, Progress, Started, is_reusable, nothing_due, started_at, put_due, store_due, folder_at, drop_due}
+use Rattle.run_rules.specs.Events.{Event, Progress, Started, is_reusable, nothing_due, started_at, put_due, store_due, folder_at, discard_due, drop_due, touch_due}
 use Rattle.run_rules.specs.Plans.{InForce, PlansSoFar}
 use Rattle.run_rules.specs.Reports.{AreWaits, outcome_of, notes_of}
 use Rattle.run_rules.specs.Run.{Goes}
@@ -32,11 +32,11 @@ use Rattle.run_core.specs.declared.state.Kept.{Kept}
 use Rattle.run_core.specs.declared.state.Measuring.{Measuring}
 use Rattle.run_core.specs.declared.state.Phase.{Phase}
 use Rattle.run_core.specs.declared.state.Turn.{Turn}
-use Rattle.run_core.specs.inner.Course.{Past, families_in, known_in, nothing_past, past_of}
+use Rattle.run_core.specs.inner.Course.{Past, families_in, key_in, known_in, nothing_past, past_of}
 use Rattle.run_core.specs.inner.Due.{Calls, IsKept, work_of}
 use Rattle.run_core.specs.inner.Keeps.{Reflects}
 use Rattle.run_core.specs.inner.Measured.{IsMeasuring, measured_by}
-use Rattle.run_core.specs.inner.Turn.{collects, ends, waits, works, puts, stores}
+use Rattle.run_core.specs.inner.Turn.{collects, discards, ends, tells_record, waits, works, puts, stores}
 use Rattle.run_core.specs.inner.JobStates.{IsLowest, state_at, waits_in}
 use Rattle.run_core.specs.inner.Planning.{shown}
 use Rattle.run_core.specs.inner.Fetches.{NoneLoads}
@@ -101,8 +101,12 @@ pub data IsAt (s : Scene) (f : Progress) (marks : List Mark) (course : Course) :
       IsAt s f marks course (puts job.place number row)
   fetching : (number : ℕ) (job : Job) (row : Row) → Reflects s f.events course None → FetchesNext s f marks course number job row →
       IsAt s f marks course (record { asks = Request.Host job.place (HostRequest.Fetch row.key (course.folders + 1) row.files); phase = Phase.Fetching number })
-  dropping : (number : ℕ) (job : Job) (its_key : List ℕ) → Reflects s f.events course None → IsJob (known_in course.known) number job → f.work ≡ drop_due job.place its_key →
-      IsAt s f marks course (record { asks = Request.Record job.place (RecordRequest.DropArchive its_key); phase = Phase.Dropping number })
+  touching : (number : ℕ) (job : Job) (its_key : Name) → Reflects s f.events course None → IsJob (known_in course.known) number job → f.work ≡ touch_due job.place its_key →
+      IsAt s f marks course (tells_record job.place (RecordRequest.Touch its_key) (Phase.Touching number))
+  dropping : (number : ℕ) (job : Job) (its_key : Name) → Reflects s f.events course None → IsJob (known_in course.known) number job → f.work ≡ drop_due job.place its_key →
+      its_key ≡ key_in course.rows number → IsAt s f marks course (tells_record job.place (RecordRequest.DropArchive its_key) (Phase.Dropping number))
+  discarding : (number : ℕ) (job : Job) (its_key : Name) (left : List Name) → Reflects s f.events course None → IsJob (known_in course.known) number job →
+      f.work ≡ discard_due job.place its_key (reverse left) → IsAt s f marks course (discards job.place number its_key left)
   storing : (number : ℕ) (job : Job) (row : Row) → Reflects s f.events course None → IsJob (known_in course.known) number job → f.work ≡ store_due job.place row →
       IsAt s f marks course (stores job.place number (folder_at s f.events job.place) row)
   staging : (number : ℕ) (job : Job) (plan : StagePlan) → Reflects s f.events course None → IsStaging s f marks course number job plan →

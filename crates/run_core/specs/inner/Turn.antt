@@ -36,13 +36,21 @@ succeeds outputs = ends (Ok (Outcome.Success outputs))
 abbrev pub works : JobPlace → ℕ → HostRequest → JobPhase → Turn
 works place number call phase = record { asks = Request.Host place call; phase = Phase.Working number phase }
 
+-- the record is told this for the job at a place
+abbrev pub tells_record : JobPlace → RecordRequest → Phase → Turn
+tells_record place command phase = record { asks = Request.Record place command; phase = phase }
+
 -- the row of the job at a place is put
 abbrev pub puts : JobPlace → ℕ → Row → Turn
-puts place number row = record { asks = Request.Record place (RecordRequest.Put row); phase = Phase.Putting number }
+puts place number row = tells_record place (RecordRequest.Put row) (Phase.Putting number)
 
 -- what the row of the job at a place lists, in this folder, is archived; then the row is put
 abbrev pub stores : JobPlace → ℕ → Name → Row → Turn
 stores place number folder row = record { asks = Request.Host place (HostRequest.Store row.key folder row.files); phase = Phase.Storing number row }
+
+-- the archive of this key is discarded for the job at a place, and then those of these, the last first
+abbrev pub discards : JobPlace → ℕ → Name → List Name → Turn
+discards place number key left = record { asks = Request.Host place (HostRequest.Discard key); phase = Phase.Discarding number left }
 
 -- the row of a job is kept, where an archive is kept or not
 abbrev pub keeps_row : Bool → Name → JobPlace → ℕ → Row → Turn

@@ -6,7 +6,7 @@ use Rattle.std.proofs.lemmas.Bool.{and_parts}
 use Rattle.job_graph.specs.Unfold.{Unfolded, or_else}
 use Rattle.run_rules.specs.Scene.{Scene}
 use Rattle.job_graph.specs.Words.{JobPlace}
-use Rattle.run_rules.specs.Events.{Event, file_measured, job_staged, job_started, child_exited, job_succeeded, job_failed, job_failed_for_now, result_delivered, host_failed, collect_failed, row_found, no_row, find_failed, put_failed, row_differs, job_repeated, store_failed, files_fetched, archive_differs, drop_failed, host_failed_late}
+use Rattle.run_rules.specs.Events.{Event, file_measured, job_staged, job_started, child_exited, job_succeeded, job_failed, job_failed_for_now, result_delivered, host_failed, collect_failed, row_found, no_row, find_failed, put_failed, row_differs, job_repeated, store_failed, files_fetched, archive_differs, drop_failed, touch_failed, discard_failed, host_failed_late}
 use Rattle.run_rules.specs.End.{End, fails_temporarily, fault_end, gives_up, settled_by, unfold_end, settled_from, settled}
 use Rattle.run_rules.proofs.events.Known.{teaches, unfolding_stays}
 
@@ -41,6 +41,8 @@ is_quiet (job_repeated place) = true
 is_quiet (files_fetched place number) = true
 is_quiet (archive_differs place its_key number) = true
 is_quiet (drop_failed place refusal) = true
+is_quiet (touch_failed place refusal) = true
+is_quiet (discard_failed place) = true
 is_quiet _ = false
 
 quiet_teaches_nothing : (e : Event) → is_quiet e ≡ true → teaches e ≡ false
@@ -113,6 +115,8 @@ module _ (s : Scene) where
   quiet_settles_nothing es (files_fetched place number) quiet = refl
   quiet_settles_nothing es (archive_differs place its_key number) quiet = refl
   quiet_settles_nothing es (drop_failed place refusal) quiet = refl
+  quiet_settles_nothing es (touch_failed place refusal) quiet = refl
+  quiet_settles_nothing es (discard_failed place) quiet = refl
 
   quiet_from : (es new : List Event) → list_all is_quiet new ≡ true → unfold_end s es ≡ None → settled_from s es new ≡ None
   quiet_from es [] quiet none = refl

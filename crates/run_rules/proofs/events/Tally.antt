@@ -2,7 +2,7 @@
 use Rattle.std.specs.Prelude.{◌||◌}
 use Rattle.std.proofs.Common.{◌≡◌, ◌∙◌, ◌+◌, ℕ, suc, Bool, true, false, cond, List, [], ◌∷◌, ◌++◌, length, filter, fold, refl, sym, ap, arith, append_assoc, append-nil}
 use Rattle.job_graph.specs.Words.{JobPlace}
-use Rattle.run_rules.specs.Events.{Event, file_measured, job_staged, job_started, child_exited, job_succeeded, job_failed, job_failed_for_now, result_delivered, host_failed, collect_failed, row_found, no_row, find_failed, put_failed, row_differs, job_repeated, brings, flight_after, in_flight, is_at_hand, number_at, number_if, store_failed, files_fetched, archive_differs, drop_failed, is_numbered, fetched_if, is_fetched, host_failed_late}
+use Rattle.run_rules.specs.Events.{Event, file_measured, job_staged, job_started, child_exited, job_succeeded, job_failed, job_failed_for_now, result_delivered, host_failed, collect_failed, row_found, no_row, find_failed, put_failed, row_differs, job_repeated, brings, flight_after, in_flight, is_at_hand, number_at, number_if, store_failed, files_fetched, archive_differs, drop_failed, touch_failed, discard_failed, is_numbered, fetched_if, is_fetched, host_failed_late}
 use Rattle.run_rules.specs.End.{gives_up}
 use Rattle.run_rules.proofs.events.Flights.{Flight}
 use Rattle.run_rules.proofs.events.Readings.{gave_up_after, in_flight_after, is_at_hand_after, fetched_after, number_after, stagings_after}
@@ -78,6 +78,8 @@ is_aside (store_failed place) = true
 is_aside (host_failed_late place fault) = true
 is_aside (row_differs place outputs) = true
 is_aside (drop_failed place refusal) = true
+is_aside (touch_failed place refusal) = true
+is_aside (discard_failed place) = true
 is_aside _ = false
 
 pub nothing_read : (r : Readings) (e : Event) → is_aside e ≡ true → reads_after r e ≡ r
@@ -102,3 +104,5 @@ nothing_read r (job_repeated place) aside = absurd cc
 nothing_read r (files_fetched place number) aside = absurd cc
 nothing_read r (archive_differs place its_key number) aside = absurd cc
 nothing_read r (drop_failed place refusal) aside = refl
+nothing_read r (touch_failed place refusal) aside = refl
+nothing_read r (discard_failed place) aside = refl

@@ -139,6 +139,7 @@ pub data IsRowOf (tool : Tool) : RecordAnswer → Result (Option Row) PlanFault 
 -- an answer that a find can have
 abbrev pub IsOfAFind : RecordAnswer → Type 0
 IsOfAFind RecordAnswer.Done = ⊥
+IsOfAFind (RecordAnswer.Put gone) = ⊥
 IsOfAFind answer = Unit {0}
 
 -- the outputs of the job of a number, by its row

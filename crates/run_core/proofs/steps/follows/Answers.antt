@@ -3,11 +3,11 @@ use Rattle.proc_host.specs.declared.call.HostAnswer.{HostAnswer}
 use Rattle.run_rules.specs.Answers.{MayAnswer}
 use Rattle.run_rules.specs.declared.request.Answer.{Answer}
 use Rattle.run_core.specs.declared.state.Phase.{Phase}
-use Rattle.run_core.specs.inner.Follows.{AsksOf, IsReadyFor, StoresKnown}
+use Rattle.run_core.specs.inner.Follows.{AsksOf, IsForKnown, IsReadyFor}
 use Rattle.run_core.specs.inner.Standing.{HasRoom}
-use Rattle.run_core.proofs.Asked.{at_work, awaits, awaits_none, it_flies, stores_known}
+use Rattle.run_core.proofs.Asked.{at_work, awaits, awaits_none, it_flies, known_for}
 use Rattle.run_core.proofs.steps.follows.Goals as goal
-use Rattle.run_core.proofs.steps.follows.Goals.{in_default-2-via-in-Measuring+in_default, in_default-2-via-in-Staging+in_default, in_default-2-via-in-Collecting+in_default, in_default-2-via-in-Draining+in_default, in_default-2-via-in-Delivering+in_default, in_default-2-via-in-Storing+in_default, in_default-2-via-in_default, in_default-2-via-in-Fetching+in_default}
+use Rattle.run_core.proofs.steps.follows.Goals.{in_default-2-via-in-Measuring+in_default, in_default-2-via-in-Staging+in_default, in_default-2-via-in-Collecting+in_default, in_default-2-via-in-Draining+in_default, in_default-2-via-in-Delivering+in_default, in_default-2-via-in-Storing+in_default, in_default-2-via-in-Discarding+in_default, in_default-2-via-in_default, in_default-2-via-in-Fetching+in_default}
 
 pub works_on-requires : goal.works_on-requires
 works_on-requires c =
@@ -21,13 +21,18 @@ works_on-requires c =
       answers = it.answers;
     }
 
-pub failed-requires-clause-stores : goal.failed-requires-clause-stores
-failed-requires-clause-stores c = stores_known c.args.course.now.tickets.items c.args.course.now c.args.asks.now c.args.phase c.requires.asks
+pub failed-requires-clause-known : goal.failed-requires-clause-known
+failed-requires-clause-known c = known_for c.args.course.now.tickets.items c.args.course.now c.args.asks.now c.args.phase c.requires.asks
 
 pub archived-requires : goal.archived-requires
 archived-requires c =
-    subst (λ (p : Phase). StoresKnown c.args.course.now p) c.in-Storing-Done.is-0
-    (stores_known c.args.course.now.tickets.items c.args.course.now c.args.asks.now c.args.phase c.requires.asks)
+    subst (λ (p : Phase). IsForKnown c.args.course.now p) c.in-Storing-Done.is-0
+    (known_for c.args.course.now.tickets.items c.args.course.now c.args.asks.now c.args.phase c.requires.asks)
+
+pub discard_next-requires-clause-number : goal.discard_next-requires-clause-number
+discard_next-requires-clause-number c =
+    subst (λ (p : Phase). IsForKnown c.args.course.now p) c.in-Discarding-Done.is-0
+    (known_for c.args.course.now.tickets.items c.args.course.now c.args.asks.now c.args.phase c.requires.asks)
 
 pub landed-requires : goal.landed-requires
 landed-requires c = record {
@@ -48,7 +53,8 @@ unreachable-requires c =
       | in_default-2-via-in-Draining+in_default w ↦ let it = waits _ w.in_default-2.is-0 in w.in_default-2.not-Ended-1 it.0 it.1
       | in_default-2-via-in-Delivering+in_default w ↦ w.in_default-2.not-Done-1 (waits _ w.in_default-2.is-0)
       | in_default-2-via-in-Storing+in_default w ↦ w.in_default-2.not-Done-1 (waits _ w.in_default-2.is-0)
+      | in_default-2-via-in-Discarding+in_default w ↦ w.in_default-2.not-Done-1 (waits _ w.in_default-2.is-0)
       | in_default-2-via-in_default w ↦
           awaits_none c.args.course.now.tickets.items c.args.course.now c.args.phase c.args.answer.now (waits c.args.phase refl) w.in_default-2.not-Measuring-0
-          w.in_default-2.not-Fetching-0 w.in_default-2.not-Staging-0 w.in_default-2.not-Working-0 w.in_default-2.not-Collecting-0 w.in_default-2.not-Delivering-0 w.in_default-2.not-Draining-0 w.in_default-2.not-Storing-0
+          w.in_default-2.not-Fetching-0 w.in_default-2.not-Staging-0 w.in_default-2.not-Working-0 w.in_default-2.not-Collecting-0 w.in_default-2.not-Delivering-0 w.in_default-2.not-Draining-0 w.in_default-2.not-Storing-0 w.in_default-2.not-Discarding-0
     ]

@@ -1,4 +1,4 @@
-use Rattle.proc_host.specs.Answers.{is_measured, is_staged, is_listed, is_stored, is_delivered}
+use Rattle.proc_host.specs.Answers.{is_measured, is_staged, is_listed, is_stored, is_delivered, is_discarded}
 use Rattle.proc_host.specs.declared.call.HostAnswer.{HostAnswer}
 use Rattle.proc_host.specs.declared.call.HostRequest.{HostRequest}
 use Rattle.workflow_engine.proofs.Calls.{answer_told, fetch_told, head_told, such_told}
@@ -38,3 +38,8 @@ pub returns-in-Store-clause-answers : goal.returns-in-Store-clause-answers
 returns-in-Store-clause-answers g c =
     rw c.in-Store.is (answer_told (g.H.Host.running c.args.host.now) (HostRequest.Store c.in-Store.key c.in-Store.folder c.in-Store.files) (λ _. HostAnswer.Done) c.store.result c.done-in-Store.result c.done-in-Store.ensures
     (λ _. is_stored c.in-Store.key c.in-Store.folder c.in-Store.files) c.store.ensures.own)
+
+pub returns-in-Discard-clause-answers : goal.returns-in-Discard-clause-answers
+returns-in-Discard-clause-answers g c =
+    rw c.in-Discard.is (answer_told (g.H.Host.running c.args.host.now) (HostRequest.Discard c.in-Discard.key) (λ _. HostAnswer.Done) c.discard.result c.done-in-Discard.result c.done-in-Discard.ensures
+    (λ _. is_discarded c.in-Discard.key) c.discard.ensures.own)
