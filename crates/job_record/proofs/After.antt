@@ -12,7 +12,7 @@ use Rattle.sqlite_schema.specs.declared.command.Command.TheVariants.{Select, Beg
 use Rattle.sqlite_schema.specs.declared.command.Returning.{Returning}
 use Rattle.sqlite_resolve.specs.declared.compiled.Compiled.{Compiled}
 use Rattle.sqlite.specs.Effect.{Database}
-use Rattle.sqlite.specs.State.{State, KeepsCounts, Shows, IsUnchanged, IsRolledBack, HasCause, Fails, Writes, Runs, RunsCommand, shows_rows, IsStatement, IsNotRun, ExecutesIn, Executes, CommitsBy, ShowsRows, Shown, FailsToShow, FailsToQuery, Begins, QueriesRow, CommitsShowing}
+use Rattle.sqlite.specs.State.{State, KeepsCounts, Shows, IsUnchanged, IsRolledBack, HasCause, Fails, Writes, Runs, RunsCommand, shows_rows, IsStatement, IsNotRun, ShowsRows, Shown, FailsToShow, FailsToQuery, Begins, QueriesRow, CommitsShowing}
 use Rattle.sqlite.proofs.Callers.{unchanged_then}
 
 module _ (old mid new : State) (same : IsUnchanged old mid) (limit : mid.step_limit ≡ old.step_limit) (counts : old.faults ≤ mid.faults) where
@@ -113,18 +113,6 @@ module _ (old mid new : State) (same : IsUnchanged old mid) (limit : mid.step_li
   unfolding IsNotRun
   not_run_from sql params e (inl h) = inl (rw same.0.now_is at h.0, same_from h.1)
   not_run_from sql params e (inr h) = inr (fails_from _ _ e (λ big. big) h)
-
-  -- ---- a command
-
-  pub executes_from : (sql : List ℕ) (params : Row) (r : Result ℕ Error) → Executes sql params mid new r → Executes sql params old new r
-  unfolding ExecutesIn
-  executes_from sql params (Ok count) h = (h.0, statement_from sql params h.0 h.1, alone_from (Ok count) (shows_rows false h.0) _ _ (command_from sql h.0 _ (Ok count)) h.2)
-  executes_from sql params (Err e) (inl h) = inl (not_run_from sql params e h)
-  executes_from sql params (Err e) (inr h) = inr (h.0, statement_from sql params h.0 h.1, alone_from (Err e) (shows_rows false h.0) _ _ (command_from sql h.0 _ (Err e)) h.2)
-
-  pub commits_from : (sql : List ℕ) (params : Row) (trees : Trees) → CommitsBy sql params mid trees → CommitsBy sql params old trees
-  unfolding CommitsBy
-  commits_from sql params trees h = (h.0, statement_from sql params h.0 h.1, rw (limit, same.0.mode, same.2, same.0.now_is) at h.2)
 
   -- ---- a query
 

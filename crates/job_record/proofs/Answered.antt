@@ -1,5 +1,5 @@
 -- Only an open connection gives an answer.
-use Rattle.std.proofs.Common.{inl, inr, ℕ, zero, suc, List, [], Option, Some, None, Result, Ok, Err, IsTrue}
+use Rattle.std.proofs.Common.{inl, inr, ℕ, List, [], Option, Some, None, Result, Ok, Err, IsTrue}
 use Rattle.sqlite.specs.Store.{Ghosts}
 use Rattle.sqlite.specs.Order.{Row as Columns}
 use Rattle.sqlite.specs.declared.error.Error.{Error}
@@ -10,12 +10,10 @@ use Rattle.sqlite_schema.specs.declared.command.Returning.{Returning}
 use Rattle.sqlite_resolve.specs.declared.compiled.Compiled.{Compiled}
 use Rattle.job_rows.specs.declared.row.Row.{Row}
 use Rattle.job_record.specs.declared.fault.RecordFault.{RecordFault}
-use Rattle.job_record.specs.declared.fault.RecordFault.TheVariants.{NotARecord, WrongVersion, NoRow, Store, OutOfMemory}
+use Rattle.job_record.specs.declared.fault.RecordFault.TheVariants.{NotARecord, WrongVersion, NoRow, Store, UsesSpent, OutOfMemory}
 use Rattle.job_record.specs.Statements.{find_text, key_params}
-use Rattle.job_record.specs.RecordMap.{Finds, Puts, changed, AnswersOpen}
-use Rattle.job_record.specs.inner.Crash.{ChangesOpen}
-use Rattle.job_record.proofs.Reading.{no_cause}
-use Rattle.job_record.proofs.Safe.{open_if_ok}
+use Rattle.job_record.specs.RecordMap.{Finds, AnswersOpen}
+use Rattle.job_record.proofs.Queries.{no_cause}
 
 module _ (sql : List ℕ) (params : Columns) (old new : State) where
   rows_were : (c : Compiled) (full : Columns) (rows : List Columns) (shows : Option Returning) → ShowsRows old new sql c full rows shows → IsTrue old.is_open
@@ -52,20 +50,8 @@ module _ {S : Type 0} (g : Ghosts S) (old new : Held S) where
   finds_open key (Ok None) h = none_was find_text (key_params key) (state g old) (state g new) h
   finds_open key (Ok (Some row)) h = row_was find_text (key_params key) (state g old) (state g new) h.0 h.1
   finds_open key (Err NotARecord) h = row_was find_text (key_params key) (state g old) (state g new) h.0 h.1
-  finds_open key (Err WrongVersion) h = tt
+  finds_open key (Err WrongVersion) h = absurd h
   finds_open key (Err NoRow) h = absurd h
+  finds_open key (Err UsesSpent) h = absurd h
   finds_open key (Err (Store e)) h = tt
   finds_open key (Err OutOfMemory) h = tt
-
-  pub puts_open : (row : Row) (result : Result (Unit {0}) RecordFault) → Puts g old new row result → ChangesOpen (state g old) (state g new) result → AnswersOpen (state g old) result
-  puts_open row (Ok done) h runs = open_if_ok RecordFault (state g old) (state g new) done runs
-  puts_open row (Err NotARecord) h runs = absurd h
-  puts_open row (Err WrongVersion) h runs = tt
-  puts_open row (Err NoRow) h runs = absurd h
-  puts_open row (Err (Store e)) h runs = tt
-  puts_open row (Err OutOfMemory) h runs = tt
-
-pub changes_open : (old new : State) (met : Result ℕ Error) → ChangesOpen old new met → AnswersOpen old (changed met)
-changes_open old new (Ok zero) runs = open_if_ok Error old new zero runs
-changes_open old new (Ok (suc n)) runs = open_if_ok Error old new (suc n) runs
-changes_open old new (Err e) runs = tt

@@ -1,5 +1,5 @@
--- What the statements of the record compile to, where the store holds its two tables.
-use Rattle.std.proofs.Common.{◌≡◌, ℕ, pos, negsuc, List, [], ◌∷◌, codes, false, Some, None, Ok, Err, refl}
+-- What the statements of the record compile to, where the store holds its tables.
+use Rattle.std.proofs.Common.{◌≡◌, ℕ, pos, negsuc, List, [], ◌∷◌, codes, true, false, Some, None, Ok, Err, refl}
 use Rattle.sqlite.specs.Collation.TheVariants.{Binary}
 use Rattle.sqlite_value.specs.declared.keys.Key.{Key}
 use Rattle.sqlite_value.specs.Keys.{ascending}
@@ -20,11 +20,12 @@ use Rattle.sqlite.specs.Listing.{understood, reads_listing, listing_schema}
 use Rattle.sqlite.proofs.Callers.{IsPlain, command_of, statement_of}
 use Rattle.sqlite_tied.specs.Compute.{everything}
 use Rattle.job_record.specs.Statements.{make_meta, make_job, note_version, version_text, find_text, list_text, put_text, drop_archive_text, forget_text}
-use Rattle.job_record.specs.Tables.{meta_at, job_at, no_schema, record_schema}
+use Rattle.job_record.specs.Archives.{make_archive, look_text, greatest_text, oldest_text, bytes_text, all_bytes_text, add_text, use_text, remove_text, archived_text, renote_version}
+use Rattle.job_record.specs.Tables.{meta_at, job_at, archive_at, no_schema, first_schema, record_schema}
 
-abbrev pub query : List Term → List Term → List (Term × Key) → Query
-query filter project order = record {
-  from = inner 2 end;
+abbrev pub query_on : ℕ → List Term → List Term → List (Term × Key) → Query
+query_on tree filter project order = record {
+  from = inner tree end;
   filter = filter;
   group = None;
   project = project;
@@ -34,6 +35,10 @@ query filter project order = record {
   limit = lit (Int (negsuc 0));
   offset = lit (Int (pos 0));
 }
+
+-- on the table of the rows
+abbrev pub query : List Term → List Term → List (Term × Key) → Query
+query = query_on 2
 
 abbrev pub has_key : List Term
 has_key = op2 (Compare Eq Binary) (col 1 1) (col 0 0) ∷ []
@@ -83,7 +88,14 @@ pub job_is : table_defined_by make_job ≡ Ok (job_at 0)
 unfolding everything
 job_is = refl
 
-pub schema_is : created (created no_schema (meta_at 0)) (job_at 0) ≡ record_schema
+pub archive_is : table_defined_by make_archive ≡ Ok (archive_at 0)
+unfolding everything
+archive_is = refl
+
+pub first_is : created (created no_schema (meta_at 0)) (job_at 0) ≡ first_schema
+first_is = refl
+
+pub schema_is : created first_schema (archive_at 0) ≡ record_schema
 schema_is = refl
 
 pub find_is : (command_of (understood record_schema find_text) ≡ Select (record { lets = []; body = find_query }) names) × (reads_listing record_schema find_text ≡ false)
@@ -126,13 +138,89 @@ pub put_plain : IsPlain (understood record_schema put_text)
 unfolding understood everything
 put_plain = (refl, refl)
 
+-- ---- the statements on the archives
+
+abbrev pub greatest_query : Query
+greatest_query = query_on 4 [] (col 1 3 ∷ []) ((col 1 3, record { collation = Binary; descending = true }) ∷ [])
+
+abbrev pub oldest_query : Query
+oldest_query = query_on 4 [] (col 1 1 ∷ col 1 2 ∷ []) ((col 1 3, ascending Binary) ∷ [])
+
+abbrev pub bytes_query : Query
+bytes_query = query_on 4 has_key (col 1 2 ∷ []) []
+
+abbrev pub all_bytes_query : Query
+all_bytes_query = query_on 4 [] (col 1 2 ∷ []) []
+
+abbrev pub use_project : List Term
+use_project = col 1 0 ∷ col 1 0 ∷ col 1 1 ∷ col 1 2 ∷ col 0 1 ∷ []
+
+abbrev pub add_row : List Term
+add_row = lit Null ∷ col 0 0 ∷ col 0 1 ∷ col 0 2 ∷ []
+
+pub greatest_is : (command_of (understood record_schema greatest_text) ≡ Select (record { lets = []; body = greatest_query }) (codes "used" ∷ [])) × (reads_listing record_schema greatest_text ≡ false)
+unfolding understood everything
+greatest_is = (refl, refl)
+
+pub greatest_plain : IsPlain (understood record_schema greatest_text)
+unfolding understood everything
+greatest_plain = (refl, refl)
+
+pub oldest_is : (command_of (understood record_schema oldest_text) ≡ Select (record { lets = []; body = oldest_query }) (codes "key" ∷ codes "bytes" ∷ [])) × (reads_listing record_schema oldest_text ≡ false)
+unfolding understood everything
+oldest_is = (refl, refl)
+
+pub oldest_plain : IsPlain (understood record_schema oldest_text)
+unfolding understood everything
+oldest_plain = (refl, refl)
+
+pub bytes_is : (command_of (understood record_schema bytes_text) ≡ Select (record { lets = []; body = bytes_query }) (codes "bytes" ∷ [])) × (reads_listing record_schema bytes_text ≡ false)
+unfolding understood everything
+bytes_is = (refl, refl)
+
+pub bytes_plain : IsPlain (understood record_schema bytes_text)
+unfolding understood everything
+bytes_plain = (refl, refl)
+
+pub all_bytes_is : (command_of (understood record_schema all_bytes_text) ≡ Select (record { lets = []; body = all_bytes_query }) (codes "bytes" ∷ [])) × (reads_listing record_schema all_bytes_text ≡ false)
+unfolding understood everything
+all_bytes_is = (refl, refl)
+
+pub all_bytes_plain : IsPlain (understood record_schema all_bytes_text)
+unfolding understood everything
+all_bytes_plain = (refl, refl)
+
+pub add_is : command_of (understood record_schema add_text) ≡ Insert 2 (Values add_row 4)
+unfolding understood everything
+add_is = refl
+
+pub add_plain : IsPlain (understood record_schema add_text)
+unfolding understood everything
+add_plain = (refl, refl)
+
+pub use_is : command_of (understood record_schema use_text) ≡ Update 2 (record { lets = []; body = query_on 4 has_key use_project [] })
+unfolding understood everything
+use_is = refl
+
+pub use_plain : IsPlain (understood record_schema use_text)
+unfolding understood everything
+use_plain = (refl, refl)
+
+pub remove_is : command_of (understood record_schema remove_text) ≡ Delete 2 (record { lets = []; body = query_on 4 has_key forget_project [] })
+unfolding understood everything
+remove_is = refl
+
+pub remove_plain : IsPlain (understood record_schema remove_text)
+unfolding understood everything
+remove_plain = (refl, refl)
+
 -- ---- the statements that make the tables, each on the schema that the one before it leaves
 
 abbrev pub meta_schema : Schema
 meta_schema = created no_schema (meta_at 0)
 
 abbrev pub version_row : List Term
-version_row = lit Null ∷ lit (Text (codes "version")) ∷ lit (Int (pos 1)) ∷ []
+version_row = lit Null ∷ lit (Text (codes "version")) ∷ lit (Int (pos 2)) ∷ []
 
 abbrev pub note_command : Command
 note_command = Insert 0 (Values version_row 3)
@@ -161,6 +249,18 @@ pub make_job_defines : table_defined_by (statement_of make_job (understood meta_
 unfolding understood everything
 make_job_defines = refl
 
+pub make_archive_is : command_of (understood first_schema make_archive) ≡ CreateTable
+unfolding understood everything
+make_archive_is = refl
+
+pub make_archive_plain : IsPlain (understood first_schema make_archive)
+unfolding understood everything
+make_archive_plain = (refl, refl)
+
+pub make_archive_defines : table_defined_by (statement_of make_archive (understood first_schema make_archive)) ≡ Ok (archive_at 0)
+unfolding understood everything
+make_archive_defines = refl
+
 pub note_is : command_of (understood record_schema note_version) ≡ note_command
 unfolding understood everything
 note_is = refl
@@ -172,6 +272,59 @@ note_plain = (refl, refl)
 pub version_plain : IsPlain (understood record_schema version_text)
 unfolding understood everything
 version_plain = (refl, refl)
+
+pub look_absent : understood first_schema look_text ≡ Err NoSuchTable
+unfolding understood listing_schema everything
+look_absent = refl
+
+pub look_plain : IsPlain (understood record_schema look_text)
+unfolding understood everything
+look_plain = (refl, refl)
+
+pub version_first : IsPlain (understood first_schema version_text)
+unfolding understood everything
+version_first = (refl, refl)
+
+pub list_first : IsPlain (understood first_schema list_text)
+unfolding understood everything
+list_first = (refl, refl)
+
+-- ---- the migration, on the tables of version 1 and the new one
+
+abbrev pub is_archived : List Term
+is_archived = op2 (Compare Eq Binary) (col 1 5) (lit (Int (pos 1))) ∷ []
+
+abbrev pub archived_query : Query
+archived_query = query is_archived (col 1 1 ∷ col 1 3 ∷ []) ((col 1 1, ascending Binary) ∷ [])
+
+abbrev pub is_version : List Term
+is_version = op2 (Compare Eq Binary) (col 1 1) (lit (Text (codes "version"))) ∷ []
+
+abbrev pub renote_project : List Term
+renote_project = col 1 0 ∷ col 1 0 ∷ col 1 1 ∷ lit (Int (pos 2)) ∷ []
+
+pub archived_is : (command_of (understood record_schema archived_text) ≡ Select (record { lets = []; body = archived_query }) (codes "key" ∷ codes "files" ∷ [])) × (reads_listing record_schema archived_text ≡ false)
+unfolding understood everything
+archived_is = (refl, refl)
+
+pub archived_plain : IsPlain (understood record_schema archived_text)
+unfolding understood everything
+archived_plain = (refl, refl)
+
+pub renote_is : command_of (understood record_schema renote_version) ≡ Update 0 (record { lets = []; body = query_on 0 is_version renote_project [] })
+unfolding understood everything
+renote_is = refl
+
+pub renote_plain : IsPlain (understood record_schema renote_version)
+unfolding understood everything
+renote_plain = (refl, refl)
+
+abbrev pub version_query : Query
+version_query = query_on 0 is_version (col 1 2 ∷ []) []
+
+pub version_is : (command_of (understood first_schema version_text) ≡ Select (record { lets = []; body = version_query }) (codes "value" ∷ [])) × (reads_listing first_schema version_text ≡ false)
+unfolding understood everything
+version_is = (refl, refl)
 
 pub version_absent : understood no_schema version_text ≡ Err NoSuchTable
 unfolding understood listing_schema everything

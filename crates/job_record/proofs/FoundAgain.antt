@@ -7,13 +7,18 @@ use Rattle.job_record.specs.Crash.{FindsAgain}
 
 pub found_again : (s : State) → FindsAgain s
 found_again s map opens sound left =
-    let same : s.now.schema ≡ record_schema = lists_once _ s.now.schema record_schema sound.lists left.sound.lists in (
-      record {
+    let same : s.now.schema ≡ record_schema = lists_once _ s.now.schema record_schema sound.lists left.holds.sound.lists in
+    record {
+      holds = record {
         schema = same;
         sound = sound;
-        keyed = left.keyed;
-        settled = sym opens.clean;
-        autocommit = opens.autocommit;
-      },
-      left.holds,
-    )
+        keyed = left.holds.keyed;
+        kept = left.holds.kept;
+        ordered = left.holds.ordered;
+        rows = left.holds.rows;
+        archives = left.holds.archives;
+      };
+      in_step = left.in_step;
+      settled = sym opens.clean;
+      autocommit = opens.autocommit;
+    }

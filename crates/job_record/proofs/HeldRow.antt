@@ -1,4 +1,4 @@
--- The columns that a record has for a key: three texts and two numbers, whose cost the table's limit lets through.
+-- The cost that a record has for a key is one that the table's limit lets through.
 use Rattle.std.proofs.Common.{◌≡◌, ℕ, ℤ, pos, min, ◌-◌, ◌^◌, ◌≤◌, inl, inr, if◌then◌else◌, true, false, not, true≢false, List, [], ◌∷◌, drop, Some, refl, sym, ap, subst, ◌∙◌, arith}
 use Rattle.std.proofs.lemmas.Bool.{and_parts}
 use Rattle.std.proofs.lemmas.Bool.Decides.{leb_tells}
@@ -11,7 +11,7 @@ use Rattle.sqlite_sql.specs.declared.ops.CompareOp.TheVariants.{Ge, Le}
 use Rattle.sqlite.specs.declared.types.Value.{Value as SqlValue}
 use Rattle.sqlite.specs.declared.types.Value.TheVariants.{Int, Text}
 use Rattle.sqlite.specs.Order.{Row as Columns}
-use Rattle.sqlite.specs.State.{State}
+use Rattle.sqlite.specs.Effect.{Database}
 use Rattle.sqlite_rules.specs.Lists.{Has}
 use Rattle.sqlite_rules.proofs.ListLemmas.{all_has}
 use Rattle.sqlite_schema.specs.Rules.{passes_checks}
@@ -20,39 +20,16 @@ use Rattle.job_rows.specs.declared.row.Row.{Row}
 use Rattle.job_record.specs.Tables.{job_at}
 use Rattle.job_record.specs.Statements.{put_params}
 use Rattle.job_record.specs.Texts.{texts_of}
-use Rattle.job_record.specs.Map.{held, IsRecord}
+use Rattle.job_record.specs.Keyed.{held_in}
+use Rattle.job_record.proofs.Standing.{AreTables}
 use Rattle.job_record.proofs.RowMap.{row_held}
 use Rattle.job_record.proofs.Shapes.{laid_in}
 
-abbrev pub literal : (key outputs files : List ℕ) (cost archived : ℤ) → Columns
-literal key outputs files cost archived = Text key ∷ Text outputs ∷ Text files ∷ Int cost ∷ Int archived ∷ []
-
-pub record Literal (c : Columns) : Type 0 where
-  pub key : List ℕ
-  pub outputs : List ℕ
-  pub files : List ℕ
-  pub cost : ℤ
-  pub archived : ℤ
-  pub is : c ≡ literal key outputs files cost archived
-
-pub held_literal : (s : State) → IsRecord s → (key : List ℕ) (c : Columns) → held s key ≡ Some c → Literal c
-held_literal s it key c h =
-    let r = row_held (s.now.trees 2) key c h in
-    let laid = laid_in s.now it.schema it.sound r.0 r.1 in
-    record {
-      key = laid.key;
-      outputs = laid.outputs;
-      files = laid.files;
-      cost = laid.cost;
-      archived = laid.archived;
-      is = r.3 ∙ ap (λ (z : Columns). drop 1 z) laid.is;
-    }
-
 -- ---- the limit of the cost
 
-checked : (s : State) → IsRecord s → (r : Columns) → Has (s.now.trees 2) r → passes_checks (job_at 2) r ≡ true
-checked s it r there =
-    let checks = rw it.schema at (it.sound.obeys.rules Check) in all_has _ (s.now.trees 2) r checks.1.0 there
+checked : (db : Database) → AreTables db → (r : Columns) → Has (db.trees 2) r → passes_checks (job_at 2) r ≡ true
+checked db it r there =
+    let checks = rw it.schema at (it.sound.obeys.rules Check) in all_has _ (db.trees 2) r checks.1.0 there
 
 abbrev most : ℕ
 most = 2 ^ 63 - 1
@@ -69,22 +46,22 @@ both_false : is_false (binary And (from_truth (Some true)) (from_truth (Some fal
 unfolding binary
 both_false = refl
 
-too_much : (id : SqlValue) (k o f : List ℕ) (a : ℤ) → passes_checks (job_at 2) (id ∷ literal k o f (pos most) a) ≡ true → ⊥
+too_much : (id : SqlValue) (k o f : List ℕ) (a : ℤ) → passes_checks (job_at 2) (id ∷ Text k ∷ Text o ∷ Text f ∷ Int (pos most) ∷ Int a ∷ []) ≡ true → ⊥
 too_much id k o f a passed =
     let within : not (is_false (binary And (binary (Compare Ge Binary) (Int (pos most)) (Int (pos 1))) (binary (Compare Le Binary) (Int (pos most)) (Int (pos 1000000000000))))) ≡ true = (and_parts _ _ passed).0 in
     true≢false (sym (rw (at_least, at_most, both_false) at within))
 
-fits : (id : SqlValue) (k o f : List ℕ) (n : ℕ) (a : ℤ) → passes_checks (job_at 2) (id ∷ literal k o f (pos (min n most)) a) ≡ true → min n most ≡ n
+fits : (id : SqlValue) (k o f : List ℕ) (n : ℕ) (a : ℤ) → passes_checks (job_at 2) (id ∷ Text k ∷ Text o ∷ Text f ∷ Int (pos (min n most)) ∷ Int a ∷ []) ≡ true → min n most ≡ n
 fits id k o f n a passed = elim (leb_tells n most) [
   | inl small ↦ min-eq_left small.1
   | inr great ↦
-      let over : most ≤ n = omega (arith, great.1) in absurd (too_much id k o f a (subst (λ m. passes_checks (job_at 2) (id ∷ literal k o f (pos m) a) ≡ true) (min-eq_right over) passed))
+      let over : most ≤ n = omega (arith, great.1) in absurd (too_much id k o f a (subst (λ m. passes_checks (job_at 2) (id ∷ Text k ∷ Text o ∷ Text f ∷ Int (pos m) ∷ Int a ∷ []) ≡ true) (min-eq_right over) passed))
 ]
 
-pub cost_fits : (s : State) → IsRecord s → (row : Row) → held s row.key ≡ Some (put_params row) → min row.cost (2 ^ 63 - 1) ≡ row.cost
-cost_fits s it row h =
-    let r = row_held (s.now.trees 2) row.key (put_params row) h in
-    let laid = laid_in s.now it.schema it.sound r.0 r.1 in
+pub cost_fits : (db : Database) → AreTables db → (row : Row) → held_in (db.trees 2) row.key ≡ Some (put_params row) → min row.cost (2 ^ 63 - 1) ≡ row.cost
+cost_fits db it row h =
+    let r = row_held (db.trees 2) row.key (put_params row) h in
+    let laid = laid_in db it.schema it.sound r.0 r.1 in
     let whole : r.0 ≡ laid.id ∷ put_params row = laid.is ∙ ap (λ (rest : Columns). laid.id ∷ rest) (sym (ap (λ (z : Columns). drop 1 z) laid.is) ∙ sym r.3) in
     fits laid.id row.key (texts_of row).outputs (texts_of row).files row.cost (if row.archived then pos 1 else pos 0)
-    (subst (λ (z : Columns). passes_checks (job_at 2) z ≡ true) whole (checked s it r.0 r.1))
+    (subst (λ (z : Columns). passes_checks (job_at 2) z ≡ true) whole (checked db it r.0 r.1))

@@ -1,7 +1,6 @@
 -- When the test of a key passes.
 use Rattle.std.proofs.Common.{◌≡◌, ℕ, Bool, true, false, ◌&&◌, Some, List, [], ◌∷◌, refl, ◌∙◌}
 use Rattle.std.specs.Str.{bytes_eq}
-use Rattle.std.specs.List.{list_all}
 use Rattle.std.proofs.lemmas.Slice.Eq.{bytes_eq-Decides}
 use Rattle.std.proofs.lemmas.Map.Text.{is_eq-slice_cmp}
 use Rattle.sqlite.specs.declared.types.Value.{Value}
@@ -12,8 +11,6 @@ use Rattle.sqlite_value.proofs.OrderLemmas.{value_cmp-Text}
 use Rattle.sqlite_sql.specs.Ops.{is_true, from_truth, binary}
 use Rattle.sqlite_sql.specs.declared.ops.BinaryOp.TheVariants.{Compare}
 use Rattle.sqlite_sql.specs.declared.ops.CompareOp.TheVariants.{Eq}
-use Rattle.sqlite_sql.specs.Term.{holds}
-use Rattle.job_record.proofs.Compiled.{has_key}
 
 pub same_text : (a b : List ℕ) → bytes_eq a b ≡ true → a ≡ b
 same_text a b h = (bytes_eq-Decides a b).0 h
@@ -29,9 +26,6 @@ pub texts_equal : (a b : List ℕ) → is_true (binary (Compare Eq Binary) (Text
 unfolding binary
 texts_equal a b = rw (value_cmp-Text a b, is_eq-slice_cmp a b) (truth_of (bytes_eq a b))
 
-and_true : (b : Bool) → (b && true) ≡ b
+pub and_true : (b : Bool) → (b && true) ≡ b
 and_true true = refl
 and_true false = refl
-
-pub key_passes : (key k : List ℕ) (params rest : Row) (id : Value) → list_all (holds ((Text key ∷ params) ∷ (id ∷ Text k ∷ rest) ∷ [])) has_key ≡ bytes_eq k key
-key_passes key k params rest id = and_true _ ∙ texts_equal k key

@@ -11,7 +11,7 @@ use Rattle.sqlite.specs.Edit.{without_all, put_all, are_fresh}
 use Rattle.sqlite_rules.specs.Lists.{Has}
 use Rattle.sqlite_rules.proofs.ListLemmas.{some_from}
 use Rattle.sqlite_rules.proofs.TableLemmas.{put_all_has, put_all_keeps, put_all_adds}
-use Rattle.job_record.specs.Map.{IsKeyed}
+use Rattle.job_record.specs.Keyed.{IsKeyed}
 use Rattle.job_record.proofs.RowMap.{SetsRow, ClearsRow, set_apart, clear_apart}
 use Rattle.job_record.proofs.Edits.{left_has, has_left}
 

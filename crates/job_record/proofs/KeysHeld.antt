@@ -10,7 +10,7 @@ use Rattle.sqlite.specs.Held.{Held, state}
 use Rattle.sqlite_rules.specs.Lists.{Has}
 use Rattle.sqlite_rules.proofs.ListLemmas.{any_has}
 use Rattle.job_record.specs.declared.fault.RecordFault.{RecordFault}
-use Rattle.job_record.specs.declared.fault.RecordFault.TheVariants.{NotARecord, WrongVersion, NoRow, Store, OutOfMemory}
+use Rattle.job_record.specs.declared.fault.RecordFault.TheVariants.{NotARecord, WrongVersion, NoRow, Store, UsesSpent, OutOfMemory}
 use Rattle.job_record.specs.Statements.{list_text}
 use Rattle.job_record.specs.Columns.{IsText, AreKeysOf, HasNoKey}
 use Rattle.job_record.specs.RecordMap.{ListsKeys}
@@ -19,7 +19,8 @@ use Rattle.job_record.specs.Crash.{ReadsSafely}
 use Rattle.job_record.specs.inner.Crash.{RunsOpen}
 use Rattle.job_record.proofs.Shapes.{laid_in}
 use Rattle.job_record.proofs.RowMap.{row_held, key_held}
-use Rattle.job_record.proofs.Reading.{list_is_plain, failed_same, all_found, listed, lists_all}
+use Rattle.job_record.proofs.Queries.{failed_same}
+use Rattle.job_record.proofs.Reading.{list_is_plain, all_found, listed, lists_all}
 use Rattle.job_record.proofs.MapSteps.{same_shows, undone_stands, listed_same}
 use Rattle.job_record.proofs.SafeCalls.{reads_safe}
 
@@ -99,6 +100,7 @@ module _ {S : Type 0} (g : Ghosts S) (old new : Held S) where
       (key.0, c.0, key.1, λ text. c.2 b.1 key.0 (b.0, text), u, (same_shows (state g old) (state g new) it u).1)
   keys_is_map (Err WrongVersion) h it = absurd h
   keys_is_map (Err NoRow) h it = absurd h
+  keys_is_map (Err UsesSpent) h it = absurd h
   keys_is_map (Err (Store e)) (inl h) it =
       undone_stands (state g old) (state g new) it (failed_same list_text [] (state g old) (state g new) (list_is_plain (state g old) (state g new) it) e h)
   keys_is_map (Err (Store e)) (inr h) it = λ open_now. same_shows (state g old) (state g new) it (listed_same g old new h.1 it h.2)
@@ -109,6 +111,7 @@ module _ {S : Type 0} (g : Ghosts S) (old new : Held S) where
   keys_stand (Err NotARecord) it h open_now = same_shows (state g old) (state g new) it h.4
   keys_stand (Err WrongVersion) it h open_now = h open_now
   keys_stand (Err NoRow) it h open_now = h open_now
+  keys_stand (Err UsesSpent) it h open_now = h open_now
   keys_stand (Err (Store e)) it h open_now = h open_now
   keys_stand (Err OutOfMemory) it h open_now = h open_now
 

@@ -2,17 +2,13 @@
 use Rattle.std.proofs.Common.{◌≡◌, inl, inr, ℕ, List, Err, subst}
 use Rattle.sqlite.specs.Order.{Row}
 use Rattle.sqlite.specs.declared.error.Error.{Error}
-use Rattle.sqlite.specs.State.{State, HasCleanDisk, IsUnchanged, Survives, IsNotRun, ExecutesIn, Executes, CommitsBy, FailsToQuery, QueriesRow, CommitsShowing}
+use Rattle.sqlite.specs.State.{State, HasCleanDisk, IsUnchanged, Survives, IsNotRun, FailsToQuery, QueriesRow, CommitsShowing}
 use Rattle.sqlite.proofs.StateLemmas.{survives_then}
 use Rattle.job_record.specs.inner.Crash.{IsIdle}
-use Rattle.job_record.proofs.Opens.{was_clean}
-use Rattle.job_record.proofs.After.{commits_from, showing_from}
+use Rattle.job_record.proofs.Chain.{was_clean}
+use Rattle.job_record.proofs.After.{showing_from}
 
 module _ (old new : State) (sql : List ℕ) (params : Row) (e : Error) (h : IsNotRun old new sql params e) where
-  pub refused_executes : Executes sql params old new (Err e)
-  unfolding ExecutesIn
-  refused_executes = inl h
-
   pub refused_fails : FailsToQuery sql params old new e
   unfolding FailsToQuery
   refused_fails = inl h
@@ -30,11 +26,6 @@ module _ (old new : State) (sql : List ℕ) (params : Row) (e : Error) (h : IsNo
 
 -- the statement runs on what the look left
 module _ (old mid new : State) (sql text : List ℕ) (params : Row) (look : Survives old mid (λ _. ⊥)) (told : HasCleanDisk mid → (text ≡ sql) × IsUnchanged old mid) where
-  pub looked_commits : Survives mid new (CommitsBy text params mid) → Survives old new (CommitsBy sql params old)
-  looked_commits ran =
-      survives_then old mid new (λ _. ⊥) (CommitsBy text params mid) (CommitsBy sql params old) (λ _ db none. absurd none)
-      (λ late db h. let t = told (was_clean mid new (CommitsBy text params mid) ran late) in commits_from old mid new t.1 look.limit look.counts sql params db (subst (λ s. CommitsBy s params mid db) t.0 h)) look ran
-
   pub looked_shows : Survives mid new (CommitsShowing text params mid) → Survives old new (CommitsShowing sql params old)
   looked_shows ran =
       survives_then old mid new (λ _. ⊥) (CommitsShowing text params mid) (CommitsShowing sql params old) (λ _ db none. absurd none)

@@ -1,5 +1,5 @@
 -- What a crash leaves after a record is opened, or refused.
-use Rattle.std.proofs.Common.{◌≡◌, inl, inr, ℕ, List, [], Option, Some, None, Ok, IsTrue, refl}
+use Rattle.std.proofs.Common.{◌≡◌, inl, inr, ℕ, pos, List, [], Option, Some, None, Ok, IsTrue, refl, ◌∙◌}
 use Rattle.sqlite.specs.Store.{Ghosts}
 use Rattle.sqlite.specs.Order.{Row as Columns}
 use Rattle.sqlite.specs.Tree.{Trees}
@@ -8,12 +8,12 @@ use Rattle.sqlite_resolve.specs.declared.compiled.Compiled.{Compiled}
 use Rattle.sqlite.specs.State.{State, HasCleanDisk, ShowsRows, Shown, QueriesRow}
 use Rattle.sqlite.specs.Held.{Held, state}
 use Rattle.job_record.specs.Statements.{version_text}
-use Rattle.job_record.specs.Map.{held}
+use Rattle.job_record.specs.Map.{KeyMap, no_columns, IsRecordOf}
 use Rattle.job_record.specs.Opening.{ReadsVersion, Opens}
 use Rattle.job_record.specs.OpenMap.{OpensAs, RefusesAs, CrashesAs}
 use Rattle.job_record.specs.Crash.{OpensSafely, RefusesSafely}
-use Rattle.job_record.proofs.MapSteps.{same_shows}
-use Rattle.job_record.proofs.Safe.{safe_open, stays_safe}
+use Rattle.job_record.specs.Rows.{OpensWithRows}
+use Rattle.job_record.proofs.Safe.{record_of, same_of, safe_open, stays_safe}
 use Rattle.job_record.proofs.SafeCalls.{settled}
 
 module _ (sql : List ℕ) (params : Columns) (old new : State) where
@@ -30,25 +30,43 @@ module _ (sql : List ℕ) (params : Columns) (old new : State) where
   row_open row (inl h) = h.1.0.is_open
   row_open row (inr h) = shown_open h.0 h.1
 
-module _ {S : Type 0} (g : Ghosts S) where
-  reads_open : (old new : Held S) → ReadsVersion (state g old) (state g new) (Ok tt) → IsTrue (state g new).is_open
-  reads_open old new h = row_open version_text [] (state g old) (state g new) h.0 h.1
+reads_open : (old new : State) (n : _) → ReadsVersion old new (Ok n) → IsTrue new.is_open
+reads_open old new n h = row_open version_text [] old new h.0 h.1
 
-  opens_open : (old new : Held S) → Opens g old new (Ok tt) → IsTrue (state g new).is_open
-  opens_open old new (inl h) = absurd (let e = h.1 in cc)
-  opens_open old new (inr h) = reads_open h.0 new h.2
+-- a record keeps its map where nothing is changed
+taken_of : (old new : State) (map : KeyMap) (budget : Option ℕ) → OpensAs budget old new → IsRecordOf old map → IsRecordOf new map
+taken_of old new map budget opens it = let t = opens.taken (record_of old map it) in same_of old new map it t.0.0.now_is (t.1.settled ∙ t.0.0.now_is) t.1.autocommit
+
+module _ {S : Type 0} (g : Ghosts S) where
+  opens_open : (old new : Held S) → Opens g old new (Ok (tt {0})) → IsTrue (state g new).is_open
+  opens_open old new (inl (has, found, u, reads)) = reads_open (state g found) (state g new) (pos 2) reads
+  opens_open old new (inr (inl (at, bare, (last, ran, shown)))) = shown.is_open
+  opens_open old new (inr (inr (at, ready, (last, m, shown)))) = shown.is_open
 
   module _ (old new : Held S) (law : (s : S) (trees : Trees) → IsTrue (g.view s).is_open → g.recovers s trees → trees ≡ (g.view s).committed) where
-    pub opened_safe : Opens g old new (Ok tt) → OpensAs (state g old) (state g new) → OpensSafely (state g old) (state g new)
-    opened_safe h map = record {
-      made = λ b. let e = map.made b in safe_open (state g new) (λ _. None) [] (settled g old new law) (opens_open old new h) e.0 e.1;
-      taken = λ it. let t = map.taken it in safe_open (state g new) (held (state g old)) [] (settled g old new law) (opens_open old new h) t.1 (same_shows (state g old) (state g new) it t.0).0;
-    }
+    pub opened_safe : (budget : Option ℕ) → Opens g old new (Ok (tt {0})) → OpensAs budget (state g old) (state g new) → OpensSafely budget (state g old) (state g new)
+    opened_safe budget h opens =
+        let safe = λ (map : KeyMap) (it : IsRecordOf (state g new) map). safe_open (state g new) map [] (settled g old new law) (opens_open old new h) it in
+        record {
+          made = λ b. safe (no_columns budget) (opens.made b);
+          migrated = λ f. let m = opens.migrated f in (m.0, m.1, m.2, safe m.0 m.3);
+          taken = λ map it. safe map (taken_of (state g old) (state g new) map budget opens it);
+        }
 
     pub kept_safe : HasCleanDisk (state g new) → RefusesAs (state g old) (state g new) → CrashesAs (state g old) (state g new) → RefusesSafely (state g old) (state g new)
     kept_safe clean refuses crashes = record {
       blank = λ b was_open trees may. elim ((crashes.blank b).crash clean trees may) [ inl before ↦ inl (law old.store trees was_open before) | inr empty ↦ inr empty ];
-      taken = λ it was_open.
-          stays_safe (state g old) (state g new) (settled g old new law) (held (state g old)) [] (safe_open (state g old) (held (state g old)) [] (settled g old old law) was_open it (λ k. refl)) (λ _. refuses.taken it)
-          (λ _. was_open) (λ trees may. elim ((crashes.taken it).crash clean trees may) [ inl before ↦ before | inr none ↦ absurd none ]);
+      first = λ f was_open trees may. elim ((crashes.first f).crash clean trees may) [ inl before ↦ inl (law old.store trees was_open before) | inr made ↦ inr made ];
+      taken = λ map it was_open.
+          stays_safe (state g old) (state g new) (settled g old new law) map [] (safe_open (state g old) map [] (settled g old old law) was_open it) (λ _. refuses.taken (record_of (state g old) map it))
+          (λ _. was_open) (λ trees may. elim ((crashes.taken (record_of (state g old) map it)).crash clean trees may) [ inl before ↦ before | inr none ↦ absurd none ]);
+    }
+
+-- the rows that a record holds once it is opened
+pub opens_rows : (budget : Option ℕ) (old new : State) → OpensSafely budget old new → OpensWithRows budget old new
+opens_rows budget old new safe =
+    record {
+      made = λ b. record { columns = no_columns budget; refused = []; safe = safe.made b; rows = record { rows = λ key. tt; archives = refl; budget = refl } };
+      migrated = λ f. let m = safe.migrated f in (m.0, m.1, m.2, λ map is. record { columns = m.0; refused = []; safe = m.3; rows = is });
+      taken = λ columns it budget_is map is. record { columns = columns; refused = []; safe = safe.taken columns it; rows = is };
     }

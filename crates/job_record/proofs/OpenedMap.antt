@@ -1,8 +1,9 @@
--- What opening a record makes of the map.
-use Rattle.std.proofs.Common.{◌≡◌, ◌⊎◌, inl, inr, ℕ, false, true, List, [], Ok, Err, Result, IsTrue, sym, ap, subst, ◌∙◌, true≢false}
+-- What opening a record makes of the map, and what it may leave to a crash.
+use Rattle.std.proofs.Common.{◌≡◌, ◌⊎◌, inl, inr, ℕ, pos, false, true, Bool, List, [], ◌∷◌, codes, Option, None, Ok, Err, Result, IsTrue, refl, sym, ap, subst, ◌∙◌, true≢false}
 use Rattle.std.specs.Prelude.{IsOk}
 use Rattle.sqlite.specs.Store.{Ghosts}
-use Rattle.sqlite.specs.Order.{Row as Columns}
+use Rattle.sqlite.specs.declared.types.Value.TheVariants.{Text}
+use Rattle.sqlite.specs.Order.{Row as Columns, column}
 use Rattle.sqlite.specs.Schema.{Schema}
 use Rattle.sqlite.specs.Tree.{Trees}
 use Rattle.sqlite.specs.declared.error.Error.{Error}
@@ -12,170 +13,339 @@ use Rattle.sqlite.specs.State.{State, HasCleanDisk, Survives, IsUnchanged, IsRol
 use Rattle.sqlite.specs.Held.{Held, state}
 use Rattle.sqlite.proofs.Callers.{IsPlain, unchanged_then, never_commits}
 use Rattle.sqlite.proofs.StateLemmas.{survives_then, survives_weaker}
+use Rattle.sqlite_trees.specs.Tree.{IsTable}
+use Rattle.sqlite_rules.specs.Lists.{Has}
 use Rattle.job_record.specs.declared.fault.RecordFault.{RecordFault}
-use Rattle.job_record.specs.declared.fault.RecordFault.TheVariants.{NotARecord, WrongVersion, NoRow, Store, OutOfMemory}
-use Rattle.job_record.specs.Tables.{no_schema, record_schema}
+use Rattle.job_record.specs.declared.fault.RecordFault.TheVariants.{NotARecord, WrongVersion, NoRow, Store, UsesSpent, OutOfMemory}
+use Rattle.job_record.specs.declared.making.Tables.{Tables}
+use Rattle.job_record.specs.declared.making.Tables.TheVariants as tables
+use Rattle.job_record.specs.Tables.{no_schema, first_schema, record_schema}
 use Rattle.job_record.specs.Statements.{version_text, list_text}
-use Rattle.job_record.specs.Map.{held_in, IsKeyed, IsRecord, IsSame, Stands}
-use Rattle.job_record.specs.Opening.{HasTables, ReadsVersion, Makes, IsReady, IsUnready, Opens}
-use Rattle.job_record.specs.OpenMap.{IsBlank, IsEmptyRecord, OpensAs, RefusesAs, AreEmptyRecord, CrashesAs}
-use Rattle.job_record.specs.inner.Crash.{CommitsReady, OpensMap}
-use Rattle.job_record.proofs.Compiled.{version_plain, version_absent}
-use Rattle.job_record.proofs.Made.{tables_made}
-use Rattle.job_record.proofs.MapSteps.{same_shows, undone_stands}
-use Rattle.job_record.proofs.Reading.{row_same, error_same, list_is_plain}
+use Rattle.job_record.specs.Archives.{look_text, AreArchives}
+use Rattle.job_record.specs.Keyed.{held_in, IsKeyed}
+use Rattle.job_record.specs.Map.{KeyMap, no_columns, HoldsMap, IsInStep, IsRecord, IsRecordOf, Stands}
+use Rattle.job_record.specs.Opening.{HasTables, ReadsVersion, GoesBack, Makes, Migrates, IsUnready, IsUndone, Opens}
+use Rattle.job_record.specs.OpenMap.{IsBlank, IsFirst, AreArchivesOf, IsMigrated, SaysVersion, OpensAs, RefusesAs, AreEmptyRecord, AreMigrated, CrashesAs}
+use Rattle.job_record.specs.inner.Opened.{HasThese, OpensMap, CommitsTables, CommitsMigrated, CommitsFirst}
+use Rattle.job_record.proofs.Chain.{left_trees}
+use Rattle.job_record.proofs.Compiled.{version_plain, version_absent, version_first, look_absent, look_plain}
+use Rattle.job_record.proofs.Made.{version_noted, tables_made}
+use Rattle.job_record.proofs.MapSteps.{same_shows}
+use Rattle.job_record.proofs.Migrated.{keyed_none, no_list, migrated, says_two}
+use Rattle.job_record.proofs.Queries.{row_same, error_same}
+use Rattle.job_record.proofs.Renoted.{version_row}
 
-keyed_none : IsKeyed []
-keyed_none = record { ids = λ r h. absurd h; rowids = λ a b h. absurd h; keys = λ a b h. absurd h }
+-- ---- which tables there are
 
--- ---- a store with no table
-
-module _ (old new : State) (b : IsBlank old) where
-  back_blank : new.now ≡ old.committed → new.committed ≡ old.committed → new.in_transaction ≡ false → IsBlank new
-  back_blank now committed mode = record { schema = ap (λ (d : Database). d.schema) (now ∙ b.settled) ∙ b.schema; settled = committed ∙ sym now; autocommit = mode }
-
-  same_blank : IsUnchanged old new → IsBlank new
-  same_blank u = back_blank (u.0.now_is ∙ sym b.settled) u.0.committed_is (u.0.mode ∙ b.autocommit)
-
-  undone_blank : IsUnchanged old new ⊎ IsRolledBack old new → IsTrue new.is_open → IsBlank new
-  undone_blank (inl u) open_now = same_blank u
-  undone_blank (inr r) open_now = let u = r.undone open_now in back_blank u.0 u.1 r.autocommit
-
--- neither table is there
 module _ (s : State) where
-  lacks_both : IsBlank s → HasTables s.now.schema true → ⊥
-  lacks_both b h = absurd (true≢false (sym (subst IsOk (ap (λ t. understood t version_text) b.schema ∙ version_absent) h.0)))
+  there_plain : (sql : List ℕ) (schema : Schema) → s.now.schema ≡ schema → IsPlain (understood schema sql) → IsPlain (understood s.now.schema sql)
+  there_plain sql schema is = subst (λ t. IsPlain (understood t sql)) (sym is)
 
-  has_both : IsRecord s → HasTables s.now.schema false → ⊥
-  has_both it h = subst IsPlain h.1 (list_is_plain s s it)
+  -- a store with no table
+  pub blank_none : (job archive : Bool) → IsBlank s → HasTables s.now.schema true job archive → ⊥
+  blank_none job archive b h = absurd (true≢false (sym (subst IsOk (ap (λ t. understood t version_text) b.schema ∙ version_absent) h.meta_is)))
 
-  version_is_plain : IsRecord s → IsPlain (understood s.now.schema version_text)
-  version_is_plain it = subst (λ t. IsPlain (understood t version_text)) (sym it.schema) version_plain
+  -- one of version 1
+  first_some : (job archive : Bool) → IsFirst s → HasTables s.now.schema false job archive → ⊥
+  first_some job archive f h = subst IsPlain h.meta_is (there_plain version_text first_schema f.schema version_first)
 
-stands_then : (a b c : State) → IsSame a b → Stands b c → Stands a c
-stands_then a b c same later open_now = let s = later open_now in (λ k. s.0 k ∙ same k, s.1)
+  first_fewer : (meta job : Bool) → IsFirst s → HasTables s.now.schema meta job true → ⊥
+  first_fewer meta job f h = absurd (true≢false (sym (subst IsOk (ap (λ t. understood t look_text) f.schema ∙ look_absent) h.archive_is)))
 
-empty_stands : (a b : State) → IsEmptyRecord a → Stands a b → IsTrue b.is_open → IsEmptyRecord b
-empty_stands a b it later open_now = let s = later open_now in (s.1, λ k. s.0 k ∙ it.1 k)
+  -- a record
+  record_some : (job archive : Bool) → IsRecord s → HasTables s.now.schema false job archive → ⊥
+  record_some job archive it h = subst IsPlain h.meta_is (there_plain version_text record_schema it.schema version_plain)
+
+  record_all : (meta job : Bool) → IsRecord s → HasTables s.now.schema meta job false → ⊥
+  record_all meta job it h = subst IsPlain h.archive_is (there_plain look_text record_schema it.schema look_plain)
+
+-- ---- the store is as it was
+
+-- the last commit is what is seen, and no transaction is open
+pub record IsAtRest (s : State) : Type 0 where
+  pub settled : s.committed ≡ s.now
+  pub autocommit : s.in_transaction ≡ false
+
+abbrev IsBack : State → State → Type 0
+IsBack old new = IsTrue new.is_open → (new.now ≡ old.now) × (new.committed ≡ old.now) × (new.in_transaction ≡ false)
+
+module _ (old new : State) (rest : IsAtRest old) where
+  same_back : IsUnchanged old new → IsBack old new
+  same_back u open_now = (u.0.now_is, u.0.committed_is ∙ rest.settled, u.0.mode ∙ rest.autocommit)
+
+  undone_back : IsUnchanged old new ⊎ IsRolledBack old new → IsBack old new
+  undone_back (inl u) open_now = same_back u open_now
+  undone_back (inr r) open_now = let u = r.undone open_now in (u.0 ∙ rest.settled, u.1 ∙ rest.settled, r.autocommit)
+
+  same_rest : IsUnchanged old new → IsAtRest new
+  same_rest u = record { settled = u.0.committed_is ∙ rest.settled ∙ sym u.0.now_is; autocommit = u.0.mode ∙ rest.autocommit }
+
+  goes_back : GoesBack old new → IsBack old new
+  goes_back b open_now = let u = b.0 open_now in (u.0 ∙ rest.settled, u.1 ∙ rest.settled, b.1)
+
+-- also by way of a state in which nothing was changed
+back_from : (old at new : State) → IsUnchanged old at → IsBack at new → IsBack old new
+back_from old at new u later open_now = let b = later open_now in (b.0 ∙ u.0.now_is, b.1 ∙ u.0.now_is, b.2)
 
 not_run : (old new : State) (sql : List ℕ) (params : Columns) (e : Error) → IsNotRun old new sql params e → IsUnchanged old new ⊎ IsRolledBack old new
 unfolding IsNotRun
 not_run old new sql params e (inl h) = inl h.1
 not_run old new sql params e (inr h) = inr h.3
 
+module _ (old new : State) (plain : IsPlain (understood old.now.schema version_text)) where
+  pub version_same : (n : _) → ReadsVersion old new (Ok n) → IsUnchanged old new
+  version_same n h = row_same version_text [] old new plain h.0 h.1
+
+  version_undone : (f : RecordFault) → ReadsVersion old new (Err f) → IsUnchanged old new ⊎ IsRolledBack old new
+  version_undone NotARecord (inl h) = error_same version_text [] old new plain _ h
+  version_undone NotARecord (inr h) = inl (row_same version_text [] old new plain h.0 h.1)
+  version_undone WrongVersion h = absurd h
+  version_undone NoRow h = absurd h
+  version_undone (Store e) (inl h) = error_same version_text [] old new plain e h.1
+  version_undone (Store e) (inr h) = inl (row_same version_text [] old new plain h.0 h.1)
+  version_undone UsesSpent h = absurd h
+  version_undone OutOfMemory h = absurd h
+
+pub plain_at : (old found : State) → IsUnchanged old found → IsPlain (understood old.now.schema version_text) → IsPlain (understood found.now.schema version_text)
+plain_at old found u = subst (λ (d : Database). IsPlain (understood d.schema version_text)) (sym u.0.now_is)
+
+-- ---- what each store is then
+
+module _ (old new : State) where
+  blank_again : IsBlank old → IsBack old new → IsTrue new.is_open → IsBlank new
+  blank_again b back open_now = let u = back open_now in record { schema = ap (λ (d : Database). d.schema) u.0 ∙ b.schema; settled = u.1 ∙ sym u.0; autocommit = u.2 }
+
+  first_again : IsFirst old → IsBack old new → IsTrue new.is_open → (new.now ≡ old.now) × IsFirst new
+  first_again f back open_now = let u = back open_now in (
+    u.0,
+    record {
+      schema = ap (λ (d : Database). d.schema) u.0 ∙ f.schema;
+      sound = subst IsDatabase (sym u.0) f.sound;
+      keyed = subst (λ (d : Database). IsKeyed (d.trees 2)) (sym u.0) f.keyed;
+      settled = u.1 ∙ sym u.0;
+      autocommit = u.2;
+    },
+  )
+
+  record_again : IsRecord old → IsBack old new → Stands old new
+  record_again it back open_now = let u = back open_now in (
+    u.0,
+    record {
+      schema = ap (λ (d : Database). d.schema) u.0 ∙ it.schema;
+      sound = subst IsDatabase (sym u.0) it.sound;
+      keyed = subst (λ (d : Database). IsKeyed (d.trees 2)) (sym u.0) it.keyed;
+      kept = subst (λ (d : Database). IsKeyed (d.trees 4)) (sym u.0) it.kept;
+      ordered = subst (λ (d : Database). IsTable (d.trees 4)) (sym u.0) it.ordered;
+      settled = u.1 ∙ sym u.0;
+      autocommit = u.2;
+    },
+  )
+
+first_same : (old found : State) → IsUnchanged old found → IsFirst old → IsFirst found
+first_same old found u f = (first_again old found f (same_back old found (record { settled = f.settled; autocommit = f.autocommit }) u) u.0.is_open).1
+
+-- a database with the tables and no row
+made_map : (db : Database) (budget : Option ℕ) → db.schema ≡ record_schema → IsDatabase db → db.trees 2 ≡ [] → db.trees 4 ≡ [] → HoldsMap db (no_columns budget)
+made_map db budget schema sound jobs archives = record {
+  schema = schema;
+  sound = sound;
+  keyed = subst IsKeyed (sym jobs) keyed_none;
+  kept = subst IsKeyed (sym archives) keyed_none;
+  ordered = subst IsTable (sym archives) tt;
+  rows = λ key. ap (λ rows. held_in rows key) jobs;
+  archives = subst (λ l. AreArchives l []) (sym archives) (record { there = no_list.there; apart = tt; rising = tt; within = λ a h. absurd h });
+}
+
+empty_in_step : (budget : Option ℕ) → IsInStep (no_columns budget)
+empty_in_step budget = record { flags = λ key c is. absurd (let e = is in cc); owned = λ key there. absurd (true≢false (sym there)) }
+
 module _ {S : Type 0} (g : Ghosts S) where
-  -- ---- the record is read
+  -- ---- the store is refused
 
-  module _ (old new : Held S) (it : IsRecord (state g old)) where
-    version_same : ReadsVersion (state g old) (state g new) (Ok tt) → IsUnchanged (state g old) (state g new)
-    version_same h = row_same version_text [] (state g old) (state g new) (version_is_plain (state g old) it) h.0 h.1
+  module _ (old new : Held S) (rest : IsAtRest (state g old)) (plain : (job archive : Bool) → HasTables (state g old).now.schema true job archive → IsPlain (understood (state g old).now.schema version_text)) where
+    abbrev back_to : Held S → Type 0
+    back_to at = IsBack (state g at) (state g new)
 
-    version_stands : (f : RecordFault) → ReadsVersion (state g old) (state g new) (Err f) → Stands (state g old) (state g new)
-    version_stands NotARecord (inl h) = undone_stands (state g old) (state g new) it (error_same version_text [] (state g old) (state g new) (version_is_plain (state g old) it) _ h)
-    version_stands NotARecord (inr h) = undone_stands (state g old) (state g new) it (inl (row_same version_text [] (state g old) (state g new) (version_is_plain (state g old) it) h.0 h.1))
-    version_stands WrongVersion h = undone_stands (state g old) (state g new) it (inl (row_same version_text [] (state g old) (state g new) (version_is_plain (state g old) it) h.0 h.1))
-    version_stands NoRow h = absurd h
-    version_stands (Store e) (inl h) = undone_stands (state g old) (state g new) it (error_same version_text [] (state g old) (state g new) (version_is_plain (state g old) it) e h.1)
-    version_stands (Store e) (inr h) = undone_stands (state g old) (state g new) it (inl (row_same version_text [] (state g old) (state g new) (version_is_plain (state g old) it) h.0 h.1))
-    version_stands OutOfMemory h = absurd h
+    found_rest : (found : Held S) → IsUnchanged (state g old) (state g found) → IsAtRest (state g found)
+    found_rest found = same_rest (state g old) (state g found) rest
 
-    version_commits_nothing : (trees : Trees) → CommitsShowing version_text [] (state g old) trees → ⊥
-    version_commits_nothing trees = never_commits version_text [] (state g old) trees (version_is_plain (state g old) it)
+    unready_back : (f : RecordFault) → IsUnready g old new f → back_to old
+    unready_back f (inl h) = same_back (state g old) (state g new) rest h.2
+    unready_back f (inr (inl (e, is, inl h))) = undone_back (state g old) (state g new) rest (not_run (state g old) (state g new) version_text [] e (h []))
+    unready_back f (inr (inl (e, is, inr (mid, u, inl h)))) =
+        back_from (state g old) (state g mid) (state g new) u (undone_back (state g mid) (state g new) (found_rest mid u) (not_run (state g mid) (state g new) list_text [] e (h [])))
+    unready_back f (inr (inl (e, is, inr (mid, u, inr h)))) =
+        back_from (state g old) (state g mid) (state g new) u (undone_back (state g mid) (state g new) (found_rest mid u) (not_run (state g mid) (state g new) look_text [] e (h [])))
+    unready_back f (inr (inr (inl (archive, has, found, u, reads)))) =
+        back_from (state g old) (state g found) (state g new) u
+        (undone_back (state g found) (state g new) (found_rest found u) (version_undone (state g found) (state g new) (plain_at (state g old) (state g found) u (plain true archive has)) f reads))
+    unready_back f (inr (inr (inr (archive, n, (has, found, u, reads), why)))) =
+        back_from (state g old) (state g found) (state g new) u
+        (same_back (state g found) (state g new) (found_rest found u) (version_same (state g found) (state g new) (plain_at (state g old) (state g found) u (plain true archive has)) n reads))
 
-  -- ---- the tables are there, or are made
+    undone_all : (f : RecordFault) → IsUndone g old new f → back_to old
+    undone_all f (inl (at, bare, back, e, is, why)) = back_from (state g old) (state g at) (state g new) bare.1 (goes_back (state g at) (state g new) (found_rest at bare.1) back)
+    undone_all f (inr (at, (has, found, u, reads), back, why)) =
+        let v = version_same (state g found) (state g at) (plain_at (state g old) (state g found) u (plain true false has)) (pos 1) reads in
+        let both = unchanged_then (state g old) (state g found) (state g at) u v in
+        back_from (state g old) (state g at) (state g new) both (goes_back (state g at) (state g new) (found_rest at both) back)
 
-  still_blank : (old found : Held S) → IsBlank (state g old) → IsUnchanged (state g old) (state g found) → (state g found).now.schema ≡ no_schema
-  still_blank old found b same = ap (λ (d : Database). d.schema) same.0.now_is ∙ b.schema
-
-  makes_empty : (old new : Held S) → (state g old).now.schema ≡ no_schema → Makes g old new → IsEmptyRecord (state g new)
-  makes_empty old new blank (last, m, shown) =
-      let t = tables_made g old last blank m in
-      let jobs : (state g new).now.trees 2 ≡ [] = ap (λ (d : Database). d.trees 2) shown.now_is ∙ t.jobs in (
-        record {
-          schema = ap (λ (d : Database). d.schema) shown.now_is ∙ t.schema_is;
-          sound = subst IsDatabase (sym shown.now_is) t.sound;
-          keyed = subst IsKeyed (sym jobs) keyed_none;
-          settled = shown.committed_is ∙ sym shown.now_is;
-          autocommit = shown.mode;
-        },
-        λ k. ap (λ rows. held_in rows k) jobs,
-      )
-
-  ready_blank : (old at : Held S) → IsBlank (state g old) → IsReady g old at → IsEmptyRecord (state g at)
-  ready_blank old at b (inl h) = absurd (lacks_both (state g old) b h.0)
-  ready_blank old at b (inr h) = makes_empty h.1 at (still_blank old h.1 b h.2) h.3
-
-  ready_taken : (old at : Held S) → IsRecord (state g old) → IsReady g old at → IsUnchanged (state g old) (state g at)
-  ready_taken old at it (inl h) = h.1
-  ready_taken old at it (inr h) = absurd (has_both (state g old) it h.0)
-
-  -- ---- the whole
+    refused_back : (f : RecordFault) → Opens g old new (Err f) → back_to old
+    refused_back f (inl h) = unready_back f h
+    refused_back f (inr h) = undone_all f h
 
   module _ (old new : Held S) where
-    opens_as : Opens g old new (Ok tt) → OpensAs (state g old) (state g new)
-    opens_as (inl h) = absurd (let e = h.1 in cc)
-    opens_as (inr h) = record {
-      made = λ b.
-          let r = ready_blank old h.0 b h.1 in
-          let u = same_shows (state g h.0) (state g new) r.0 (version_same h.0 new r.0 h.2) in
-          (u.1, λ k. u.0 k ∙ r.1 k);
-      taken = λ it.
-          let first = ready_taken old h.0 it h.1 in
-          let at = (same_shows (state g old) (state g h.0) it first).1 in
-          let u = unchanged_then (state g old) (state g h.0) (state g new) first (version_same h.0 new at h.2) in
-          (u, (same_shows (state g old) (state g new) it u).1);
-    }
-
-    unready_blank : (f : RecordFault) → IsUnready g old new f → IsBlank (state g old) → IsTrue (state g new).is_open → IsBlank (state g new)
-    unready_blank f (inl h) b open_now = same_blank (state g old) (state g new) b h.2
-    unready_blank f (inr (e, is, inl (inl h))) b open_now = undone_blank (state g old) (state g new) b (not_run (state g old) (state g new) version_text [] e (h [])) open_now
-    unready_blank f (inr (e, is, inl (inr h))) b open_now =
-        undone_blank (state g h.0) (state g new) (same_blank (state g old) (state g h.0) b h.1) (not_run (state g h.0) (state g new) list_text [] e (h.2 [])) open_now
-    unready_blank f (inr (e, is, inr h)) b open_now = let u = h.4.0 open_now in back_blank (state g h.1) (state g new) (same_blank (state g old) (state g h.1) b h.2) u.0 u.1 h.4.1
-
-    unready_taken : (f : RecordFault) → IsUnready g old new f → IsRecord (state g old) → Stands (state g old) (state g new)
-    unready_taken f (inl h) it = undone_stands (state g old) (state g new) it (inl h.2)
-    unready_taken f (inr (e, is, inl (inl h))) it = undone_stands (state g old) (state g new) it (not_run (state g old) (state g new) version_text [] e (h []))
-    unready_taken f (inr (e, is, inl (inr h))) it =
-        let mid = same_shows (state g old) (state g h.0) it h.1 in
-        stands_then (state g old) (state g h.0) (state g new) mid.0 (undone_stands (state g h.0) (state g new) mid.1 (not_run (state g h.0) (state g new) list_text [] e (h.2 [])))
-    unready_taken f (inr (e, is, inr h)) it = absurd (has_both (state g old) it h.0)
-
     refuses_as : (f : RecordFault) → Opens g old new (Err f) → RefusesAs (state g old) (state g new)
-    refuses_as f (inl h) = record { blank = λ b open_now. inl (unready_blank h.0 h.2 b open_now); taken = unready_taken h.0 h.2 }
-    refuses_as f (inr h) = record {
-      blank = λ b open_now. let r = ready_blank old h.0 b h.1 in inr (empty_stands (state g h.0) (state g new) r (version_stands h.0 new r.0 f h.2) open_now);
-      taken = λ it.
-          let at = same_shows (state g old) (state g h.0) it (ready_taken old h.0 it h.1) in
-          stands_then (state g old) (state g h.0) (state g new) at.0 (version_stands h.0 new at.1 f h.2);
+    refuses_as f h = record {
+      blank = λ b. blank_again (state g old) (state g new) b
+          (refused_back old new (record { settled = b.settled; autocommit = b.autocommit }) (λ job archive has. absurd (blank_none (state g old) job archive b has)) f h);
+      first = λ it. first_again (state g old) (state g new) it
+          (refused_back old new (record { settled = it.settled; autocommit = it.autocommit }) (λ job archive has. there_plain (state g old) version_text first_schema it.schema version_first) f h);
+      taken = λ it. record_again (state g old) (state g new) it
+          (refused_back old new (record { settled = it.settled; autocommit = it.autocommit }) (λ job archive has. there_plain (state g old) version_text record_schema it.schema version_plain) f h);
     }
 
-    pub opens_map : (r : Result (Unit {0}) RecordFault) → Opens g old new r → OpensMap (state g old) (state g new) r
-    opens_map (Ok done) h = opens_as h
-    opens_map (Err f) h = refuses_as f h
+    -- ---- it opens
 
-    -- ---- crashes
-
-    empty_trees : IsBlank (state g old) → (trees : Trees) → CommitsReady g old trees → AreEmptyRecord trees
-    empty_trees b trees (absent, found, same, made) =
-        let t = tables_made g found made.0 (still_blank old found b same) made.1 in
-        let database = λ (s : Schema) (d : Trees). IsDatabase (record { schema = s; trees = d }) in
+    makes_empty : (budget : Option ℕ) → (state g old).now.schema ≡ no_schema → Makes g old new → IsRecordOf (state g new) (no_columns budget)
+    makes_empty budget blank (last, ran, shown) =
+        let t = tables_made g old last blank ran in
         record {
-          sound = subst (database record_schema) (sym made.2) (subst (λ s. database s (state g made.0).now.trees) t.schema_is t.sound);
-          rows = ap (λ (d : Trees). d 2) made.2 ∙ t.jobs;
+          holds = subst (λ d. HoldsMap d (no_columns budget)) (sym shown.now_is) (made_map (state g last).now budget t.schema_is t.sound t.jobs t.archives);
+          in_step = empty_in_step budget;
+          settled = shown.committed_is ∙ sym shown.now_is;
+          autocommit = shown.mode;
         }
 
-    pub unready_crashes : Survives (state g old) (state g new) (CommitsReady g old) → CrashesAs (state g old) (state g new)
-    unready_crashes s = record {
-      blank = λ b. survives_weaker (state g old) (state g new) _ _ (λ clean. empty_trees b) s;
-      taken = λ it. survives_weaker (state g old) (state g new) _ _ (λ clean trees h. has_both (state g old) it h.0) s;
+    says_made : (state g old).now.schema ≡ no_schema → Makes g old new → SaysVersion (state g new).now 2
+    says_made blank (last, ran, shown) =
+        let t = tables_made g old last blank ran in
+        let rows : (state g new).now.trees 0 ≡ version_noted ∷ [] = ap (λ (d : Database). d.trees 0) shown.now_is ∙ t.version in
+        record {
+          row = version_noted;
+          there = subst (λ l. Has l version_noted) (sym rows) (inl refl);
+          name = refl;
+          each = λ r h name. elim (subst (λ l. Has l r) rows h) [ inl same ↦ ap (λ (z : Columns). column z 2) same | inr none ↦ absurd none ];
+        }
+
+    says_migrated : IsFirst (state g old) → IsKeyed ((state g old).now.trees 0) → (r : Columns) → Has ((state g old).now.trees 0) r → column r 1 ≡ Text (codes "version") → Migrates g old new → SaysVersion (state g new).now 2
+    says_migrated f keyed r there is (last, m, shown) = subst (λ d. SaysVersion d 2) (sym shown.now_is) (says_two g old last f m keyed r there is)
+
+    migrates_to : (budget : Option ℕ) → IsFirst (state g old) → Migrates g old new → (map : KeyMap) × (map.budget ≡ budget) × IsMigrated (state g old) map × IsRecordOf (state g new) map
+    migrates_to budget f (last, m, shown) =
+        let t = migrated g old last f m budget in (
+          t.map,
+          t.budget_is,
+          t.is,
+          record {
+            holds = subst (λ d. HoldsMap d t.map) (sym shown.now_is) t.holds;
+            in_step = t.in_step;
+            settled = shown.committed_is ∙ sym shown.now_is;
+            autocommit = shown.mode;
+          },
+        )
+
+  is_migrated_at : (old at : State) (map : KeyMap) → at.now ≡ old.now → IsMigrated at map → IsMigrated old map
+  is_migrated_at old at map same it = record {
+    rows = λ key. it.rows key ∙ ap (λ (d : Database). held_in (d.trees 2) key) same;
+    archives = subst (λ (d : Database). AreArchivesOf (held_in (d.trees 2)) map.archives) same it.archives;
+  }
+
+  module _ (old new : Held S) where
+    opens_as : (budget : Option ℕ) → Opens g old new (Ok (tt {0})) → OpensAs budget (state g old) (state g new)
+    opens_as budget (inl (has, found, u, reads)) = record {
+      made = λ b. absurd (blank_none (state g old) true true b has);
+      migrated = λ f. absurd (first_fewer (state g old) true true f has);
+      taken = λ it.
+          let plain = plain_at (state g old) (state g found) u (there_plain (state g old) version_text record_schema it.schema version_plain) in
+          let all = unchanged_then (state g old) (state g found) (state g new) u (version_same (state g found) (state g new) plain (pos 2) reads) in
+          (all, (same_shows (state g old) (state g new) it all).1);
+      noted = λ b. absurd (blank_none (state g old) true true b has);
+      renoted = λ f keyed. absurd (first_fewer (state g old) true true f has);
+    }
+    opens_as budget (inr (inl (at, bare, makes))) = record {
+      made = λ b. makes_empty at new budget (ap (λ (d : Database). d.schema) bare.1.0.now_is ∙ b.schema) makes;
+      migrated = λ f. absurd (first_some (state g old) false false f bare.0);
+      taken = λ it. absurd (record_some (state g old) false false it bare.0);
+      noted = λ b. says_made at new (ap (λ (d : Database). d.schema) bare.1.0.now_is ∙ b.schema) makes;
+      renoted = λ f keyed. absurd (first_some (state g old) false false f bare.0);
+    }
+    opens_as budget (inr (inr (at, (has, found, u, reads), migrates))) = record {
+      made = λ b. absurd (blank_none (state g old) true false b has);
+      migrated = λ f.
+          let plain = plain_at (state g old) (state g found) u (there_plain (state g old) version_text first_schema f.schema version_first) in
+          let both = unchanged_then (state g old) (state g found) (state g at) u (version_same (state g found) (state g at) plain (pos 1) reads) in
+          let m = migrates_to at new budget (first_same (state g old) (state g at) both f) migrates in
+          (m.0, m.1, is_migrated_at (state g old) (state g at) m.0 both.0.now_is m.2, m.3);
+      taken = λ it. absurd (record_all (state g old) true true it has);
+      noted = λ b. absurd (blank_none (state g old) true false b has);
+      renoted = λ f keyed.
+          let plain = plain_at (state g old) (state g found) u (there_plain (state g old) version_text first_schema f.schema version_first) in
+          let v = version_same (state g found) (state g at) plain (pos 1) reads in
+          let both = unchanged_then (state g old) (state g found) (state g at) u v in
+          let before = first_same (state g old) (state g found) u f in
+          let r = version_row (state g found) (state g at) (pos 1) before.schema before.sound reads in
+          says_migrated at new (first_same (state g old) (state g at) both f) (subst (λ (d : Database). IsKeyed (d.trees 0)) (sym both.0.now_is) keyed) r.0 (subst (λ (d : Database). Has (d.trees 0) r.0) (sym v.0.now_is) r.1) r.2 migrates;
     }
 
-  pub ready_crashes : (old mid new : Held S) → (HasCleanDisk (state g new) → IsReady g old mid) → Survives (state g old) (state g mid) (CommitsReady g old) → Survives (state g mid) (state g new) (CommitsShowing version_text [] (state g mid)) → CrashesAs (state g old) (state g new)
-  ready_crashes old mid new ready one two = record {
-    blank = λ b.
-        survives_then (state g old) (state g mid) (state g new) _ _ _ (λ clean. empty_trees old mid b) (λ clean trees h. absurd (version_commits_nothing mid new (ready_blank old mid b (ready clean)).0 trees h)) one two;
-    taken = λ it.
-        survives_then (state g old) (state g mid) (state g new) _ _ _ (λ clean trees h. has_both (state g old) it h.0)
-        (λ clean trees h. version_commits_nothing mid new (same_shows (state g old) (state g mid) it (ready_taken old mid it (ready clean))).1 trees h) one two;
+    pub opens_map : (budget : Option ℕ) (r : Result (Unit {0}) RecordFault) → Opens g old new r → OpensMap budget (state g old) (state g new) r
+    opens_map budget (Ok done) h = opens_as budget h
+    opens_map budget (Err f) h = refuses_as old new f h
+
+  -- ---- crashes
+
+  module _ (old found : Held S) (u : IsUnchanged (state g old) (state g found)) where
+    empty_left : HasThese (state g old).now.schema tables.None → IsBlank (state g old) → (trees : Trees) → CommitsTables g found trees → AreEmptyRecord trees
+    empty_left has b trees (last, ran, same) =
+        let t = tables_made g found last (ap (λ (d : Database). d.schema) u.0.now_is ∙ b.schema) ran in
+        record { holds = left_trees (state g last).now trees (no_columns None) same (made_map (state g last).now None t.schema_is t.sound t.jobs t.archives); in_step = empty_in_step None }
+
+    migrated_at : IsFirst (state g old) → (trees : Trees) (at : Held S) → IsUnchanged (state g found) (state g at) → CommitsMigrated g at trees → AreMigrated (state g old) trees
+    migrated_at f trees at v (last, m, same) =
+        let both = unchanged_then (state g old) (state g found) (state g at) u v in
+        let t = migrated g at last (first_same (state g old) (state g at) both f) m None in
+        (t.map, is_migrated_at (state g old) (state g at) t.map both.0.now_is t.is, record { holds = left_trees (state g last).now trees t.map same t.holds; in_step = t.in_step })
+
+    shows_nothing : (schema : Schema) → (state g old).now.schema ≡ schema → IsPlain (understood schema version_text) → (trees : Trees) → CommitsShowing version_text [] (state g found) trees → ⊥
+    shows_nothing schema is plain trees = never_commits version_text [] (state g found) trees (plain_at (state g old) (state g found) u (there_plain (state g old) version_text schema is plain))
+
+    migrated_left : IsFirst (state g old) → (trees : Trees) → CommitsFirst g found trees → AreMigrated (state g old) trees
+    migrated_left f trees (inl shows) = absurd (shows_nothing first_schema f.schema version_first trees shows)
+    migrated_left f trees (inr (at, reads, commits)) =
+        let plain = plain_at (state g old) (state g found) u (there_plain (state g old) version_text first_schema f.schema version_first) in
+        migrated_at f trees at (version_same (state g found) (state g at) plain (pos 1) reads) commits
+
+  module _ (old found new : Held S) (one : Survives (state g old) (state g found) (λ _. ⊥)) where
+    after_look : (P Q : Trees → Type 0) → (HasCleanDisk (state g new) → (trees : Trees) → P trees → Q trees) → Survives (state g found) (state g new) P → Survives (state g old) (state g new) Q
+    after_look P Q tells two = survives_then (state g old) (state g found) (state g new) (λ _. ⊥) P Q (λ _ db none. absurd none) tells one two
+
+    abbrev Looked : Tables → Type 0
+    Looked t = HasCleanDisk (state g new) → HasThese (state g old).now.schema t × IsUnchanged (state g old) (state g found)
+
+    pub make_crashes : Looked tables.None → Survives (state g found) (state g new) (CommitsTables g found) → CrashesAs (state g old) (state g new)
+    make_crashes looked two = record {
+      blank = λ b. after_look _ _ (λ clean trees made. let l = looked clean in empty_left old found l.1 l.0 b trees made) two;
+      first = λ f. after_look _ _ (λ clean trees made. absurd (first_some (state g old) false false f (looked clean).0)) two;
+      taken = λ it. after_look _ _ (λ clean trees made. record_some (state g old) false false it (looked clean).0) two;
+    }
+
+    pub first_crashes : Looked tables.First → Survives (state g found) (state g new) (CommitsFirst g found) → CrashesAs (state g old) (state g new)
+    first_crashes looked two = record {
+      blank = λ b. after_look _ _ (λ clean trees made. absurd (blank_none (state g old) true false b (looked clean).0)) two;
+      first = λ f. after_look _ _ (λ clean trees made. migrated_left old found (looked clean).1 f trees made) two;
+      taken = λ it. after_look _ _ (λ clean trees made. record_all (state g old) true true it (looked clean).0) two;
+    }
+
+    pub current_crashes : Looked tables.All → Survives (state g found) (state g new) (CommitsShowing version_text [] (state g found)) → CrashesAs (state g old) (state g new)
+    current_crashes looked two = record {
+      blank = λ b. after_look _ _ (λ clean trees made. absurd (blank_none (state g old) true true b (looked clean).0)) two;
+      first = λ f. after_look _ _ (λ clean trees made. absurd (first_fewer (state g old) true true f (looked clean).0)) two;
+      taken = λ it. after_look _ _ (λ clean trees made. shows_nothing old found (looked clean).1 record_schema it.schema version_plain trees made) two;
+    }
+
+  pub unfound_crashes : (old new : Held S) → Survives (state g old) (state g new) (λ _. ⊥) → CrashesAs (state g old) (state g new)
+  unfound_crashes old new s = record {
+    blank = λ b. survives_weaker (state g old) (state g new) _ _ (λ clean db none. absurd none) s;
+    first = λ f. survives_weaker (state g old) (state g new) _ _ (λ clean db none. absurd none) s;
+    taken = λ it. s;
   }

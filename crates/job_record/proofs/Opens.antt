@@ -1,5 +1,5 @@
 -- What the looks for the tables and the version come to.
-use Rattle.std.proofs.Common.{◌≡◌, ◌⊎◌, inl, inr, ℕ, Bool, true, false, List, [], Result, Ok, Err, IfOk, IfErr, refl, sym, ap, subst, ◌∙◌, arith}
+use Rattle.std.proofs.Common.{◌≡◌, ◌⊎◌, inl, inr, ℕ, ℤ, Bool, true, false, List, [], Result, Ok, Err, IfOk, IfErr, refl, sym, ap, subst, ◌∙◌}
 use Rattle.std.specs.Prelude.{IsOk}
 use Rattle.sqlite.specs.Order.{Row as Columns}
 use Rattle.sqlite.specs.Store.{Ghosts}
@@ -8,23 +8,24 @@ use Rattle.sqlite.specs.Effect.{Database}
 use Rattle.sqlite.specs.Listing.{understood}
 use Rattle.sqlite.specs.Outline.{Outline}
 use Rattle.sqlite.specs.Steps.{Outlines}
-use Rattle.sqlite.specs.State.{State, HasCleanDisk, Survives, IsUnchanged, IsNotRun, IsNoStatement, store_error, QueriesRow}
+use Rattle.sqlite.specs.State.{State, IsUnchanged, IsNotRun, IsNoStatement, store_error, QueriesRow}
 use Rattle.sqlite.specs.Held.{Held, state}
-use Rattle.sqlite.specs.Tree.{Trees}
 use Rattle.sqlite.specs.declared.error.Error.{Error}
 use Rattle.sqlite.specs.declared.error.Error.TheVariants.{SqlInputError}
 use Rattle.sqlite.proofs.Callers.{unchanged_then}
-use Rattle.sqlite.proofs.StateLemmas.{survives_then}
 use Rattle.sqlite_trees.specs.declared.error.StoreError.{StoreError}
 use Rattle.sqlite_trees.specs.declared.error.StoreError.TheVariants.{OutOfMemory, Io, Corrupt, Full, Broken, Unstorable}
 use Rattle.sqlite_resolve.specs.declared.compiled.Compiled.{Compiled}
 use Rattle.sqlite_resolve.specs.declared.error.CompileError.{CompileError}
+use Rattle.sqlite_resolve.specs.declared.error.CompileError.TheVariants.{NoSuchTable, NoSuchColumn}
 use Rattle.job_record.specs.declared.fault.RecordFault.{RecordFault}
 use Rattle.job_record.specs.declared.fault.RecordFault.TheVariants as fault
+use Rattle.job_record.specs.declared.making.Tables.{Tables}
 use Rattle.job_record.specs.Statements.{version_text, list_text}
-use Rattle.sqlite_resolve.specs.declared.error.CompileError.TheVariants.{NoSuchTable, NoSuchColumn}
+use Rattle.job_record.specs.Archives.{look_text}
 use Rattle.job_record.specs.inner.Lacking.{lacking}
-use Rattle.job_record.specs.Opening.{HasTable, HasTables, LacksColumn, both_of, VersionIn, ReadsVersion, CannotRead, IsUnready}
+use Rattle.job_record.specs.inner.Opened.{tables_of, HasThese}
+use Rattle.job_record.specs.Opening.{HasTable, HasTables, LacksColumn, VersionIn, ReadsVersion, CannotRead, IsUnready}
 
 pub outlined : (r : Result Compiled CompileError) (o : Outline) → Outlines r o → IsOk r
 outlined (Ok c) o h = refl
@@ -63,56 +64,75 @@ module _ (old new : State) (sql : List ℕ) where
   lacking_err (SqlInputError NoSuchColumn) h = let m = misread old new sql NoSuchColumn _ refl (h []) in inl (refl, m.0, m.1)
   lacking_err e h = inr (e, refl, h)
 
-pub was_clean : (old new : State) (P : Trees → Type 0) → Survives old new P → HasCleanDisk new → HasCleanDisk old
-was_clean old new P s clean = omega (arith, s.clean, clean)
+-- ---- the version
 
--- two parts that commit nothing
-pub nothing_then : (a b c : State) → Survives a b (λ _. ⊥) → Survives b c (λ _. ⊥) → Survives a c (λ _. ⊥)
-nothing_then a b c = survives_then a b c (λ _. ⊥) (λ _. ⊥) (λ _. ⊥) (λ _ db none. none) (λ _ db none. none)
-
-pub version_reads : (old new : State) (c : Columns) (r : Result (Unit {0}) RecordFault) → QueriesRow version_text [] old new (Ok c) → VersionIn c r → ReadsVersion old new r
-version_reads old new c (Ok done) q h = (c, q, h)
+pub version_reads : (old new : State) (c : Columns) (r : Result ℤ RecordFault) → QueriesRow version_text [] old new (Ok c) → VersionIn c r → ReadsVersion old new r
+version_reads old new c (Ok n) q h = (c, q, h)
 version_reads old new c (Err fault.NotARecord) q h = inr (c, q, h)
-version_reads old new c (Err fault.WrongVersion) q h = (c, q, h)
+version_reads old new c (Err fault.WrongVersion) q h = absurd h
 version_reads old new c (Err fault.NoRow) q h = absurd h
 version_reads old new c (Err (fault.Store e)) q h = inr (c, q, h)
+version_reads old new c (Err fault.UsesSpent) q h = absurd h
 version_reads old new c (Err fault.OutOfMemory) q h = absurd h
 
-module _ {S : Type 0} (g : Ghosts S) (old mid new : Held S) where
-  abbrev Looks : Bool → Bool → Type 0
-  Looks meta job =
-      (HasTable (state g old).now.schema version_text meta × IsUnchanged (state g old) (state g mid)) × (HasTable (state g mid).now.schema list_text job × IsUnchanged (state g mid) (state g new))
+-- ---- the looks
 
-  then_same : IsUnchanged (state g old) (state g mid) → IsUnchanged (state g mid) (state g new) → IsUnchanged (state g old) (state g new)
-  then_same = unchanged_then (state g old) (state g mid) (state g new)
+-- a look that is refused: R1 where the table lacks a column, or R4
+abbrev pub Lacks : {S : Type 0} → Ghosts S → Held S → Held S → List ℕ → RecordFault → Type 0
+Lacks g from to query f =
+    ((f ≡ fault.NotARecord) × LacksColumn (state g from).now.schema query × IsUnchanged (state g from) (state g to)) ⊎ ((e : Error) × (f ≡ fault.Store e) × CannotRead g query from to e)
 
-  schema_is : IsUnchanged (state g old) (state g mid) → (state g mid).now.schema ≡ (state g old).now.schema
-  schema_is same = ap (λ (d : Database). d.schema) same.0.now_is
+same_schema : (old new : State) → IsUnchanged old new → new.now.schema ≡ old.now.schema
+same_schema old new same = ap (λ (d : Database). d.schema) same.0.now_is
 
-  at_start : (job : Bool) → IsUnchanged (state g old) (state g mid) → HasTable (state g mid).now.schema list_text job → HasTable (state g old).now.schema list_text job
-  at_start job same = subst (λ (s : Schema). HasTable s list_text job) (schema_is same)
+module _ {S : Type 0} (g : Ghosts S) where
+  pub lacks_first : (old new : Held S) (f : RecordFault) → Lacks g old new version_text f → IsUnready g old new f
+  lacks_first old new f (inl h) = inl (h.0, inl (inl h.1), h.2)
+  lacks_first old new f (inr h) = inr (inl (h.0, h.1, inl h.2))
 
-  pub both_ok : (meta job : Bool) (r : Result Bool RecordFault) → r ≡ both_of meta job → Looks meta job → IfOk r (λ both. HasTables (state g old).now.schema both × IsUnchanged (state g old) (state g new))
-  both_ok true true r is h = rw is ((h.0.0, at_start true h.0.1 h.1.0), then_same h.0.1 h.1.1)
-  both_ok false false r is h = rw is ((h.0.0, at_start false h.0.1 h.1.0), then_same h.0.1 h.1.1)
-  both_ok true false r is h = rw is tt
-  both_ok false true r is h = rw is tt
+  module _ (old mid new : Held S) (same : IsUnchanged (state g old) (state g mid)) where
+    pub lacks_second : (f : RecordFault) → Lacks g mid new list_text f → IsUnready g old new f
+    lacks_second f (inl h) = inl (h.0, inl (inr (inl (subst (λ (s : Schema). LacksColumn s list_text) (same_schema (state g old) (state g mid) same) h.1))), unchanged_then (state g old) (state g mid) (state g new) same h.2)
+    lacks_second f (inr h) = inr (inl (h.0, h.1, inr (mid, same, inl h.2)))
 
-  pub both_err : (meta job : Bool) (r : Result Bool RecordFault) → r ≡ both_of meta job → Looks meta job → IfErr r (IsUnready g old new)
-  both_err true true r is h = rw is tt
-  both_err false false r is h = rw is tt
-  both_err true false r is h = rw is (inl (refl, inr (inl (h.0.0, at_start false h.0.1 h.1.0)), then_same h.0.1 h.1.1))
-  both_err false true r is h = rw is (inl (refl, inr (inr (h.0.0, at_start true h.0.1 h.1.0)), then_same h.0.1 h.1.1))
+    pub lacks_third : (f : RecordFault) → Lacks g mid new look_text f → IsUnready g old new f
+    lacks_third f (inl h) = inl (h.0, inl (inr (inr (subst (λ (s : Schema). LacksColumn s look_text) (same_schema (state g old) (state g mid) same) h.1))), unchanged_then (state g old) (state g mid) (state g new) same h.2)
+    lacks_third f (inr h) = inr (inl (h.0, h.1, inr (mid, same, inr h.2)))
 
-  abbrev Lacks : Held S → Held S → List ℕ → RecordFault → Type 0
-  Lacks from to query f =
-      ((f ≡ fault.NotARecord) × LacksColumn (state g from).now.schema query × IsUnchanged (state g from) (state g to)) ⊎ ((e : Error) × (f ≡ fault.Store e) × CannotRead g query from to e)
+  module _ (old one two new : Held S) where
+    abbrev Looks : Bool → Bool → Bool → Type 0
+    Looks meta job archive =
+        (HasTable (state g old).now.schema version_text meta × IsUnchanged (state g old) (state g one))
+        × (HasTable (state g one).now.schema list_text job × IsUnchanged (state g one) (state g two))
+        × (HasTable (state g two).now.schema look_text archive × IsUnchanged (state g two) (state g new))
 
-  pub lacks_second : (f : RecordFault) → IsUnchanged (state g old) (state g mid) → Lacks mid new list_text f → IsUnready g old new f
-  lacks_second f same (inl h) = inl (h.0, inl (inr (subst (λ (s : Schema). LacksColumn s list_text) (schema_is same) h.1)), then_same same h.2)
-  lacks_second f same (inr h) = inr (h.0, h.1, inl (inr (mid, same, h.2)))
+    pub looked_twice : IsUnchanged (state g old) (state g one) → IsUnchanged (state g one) (state g two) → IsUnchanged (state g old) (state g two)
+    looked_twice = unchanged_then (state g old) (state g one) (state g two)
 
-pub lacks_first : {S : Type 0} (g : Ghosts S) (old new : Held S) (f : RecordFault)
-    → ((f ≡ fault.NotARecord) × LacksColumn (state g old).now.schema version_text × IsUnchanged (state g old) (state g new)) ⊎ ((e : Error) × (f ≡ fault.Store e) × CannotRead g version_text old new e) → IsUnready g old new f
-lacks_first g old new f (inl h) = inl (h.0, inl (inl h.1), h.2)
-lacks_first g old new f (inr h) = inr (h.0, h.1, inl (inl h.2))
+    looked : (meta job archive : Bool) → Looks meta job archive → HasTables (state g old).now.schema meta job archive × IsUnchanged (state g old) (state g new)
+    looked meta job archive h =
+        let both = looked_twice h.0.1 h.1.1 in (
+          record {
+            meta_is = h.0.0;
+            job_is = subst (λ (s : Schema). HasTable s list_text job) (same_schema (state g old) (state g one) h.0.1) h.1.0;
+            archive_is = subst (λ (s : Schema). HasTable s look_text archive) (same_schema (state g old) (state g two) both) h.2.0;
+          },
+          unchanged_then (state g old) (state g two) (state g new) both h.2.1,
+        )
+
+    pub looks_ok : (meta job archive : Bool) (r : Result Tables RecordFault) → r ≡ tables_of meta job archive → Looks meta job archive
+        → IfOk r (λ tables. HasThese (state g old).now.schema tables × IsUnchanged (state g old) (state g new))
+    looks_ok true true true r is h = rw is (looked true true true h)
+    looks_ok true true false r is h = rw is (looked true true false h)
+    looks_ok false false false r is h = rw is (looked false false false h)
+    looks_ok true false archive r is h = rw is tt
+    looks_ok false true archive r is h = rw is tt
+    looks_ok false false true r is h = rw is tt
+
+    pub looks_err : (meta job archive : Bool) (r : Result Tables RecordFault) → r ≡ tables_of meta job archive → Looks meta job archive → IfErr r (IsUnready g old new)
+    looks_err true true true r is h = rw is tt
+    looks_err true true false r is h = rw is tt
+    looks_err false false false r is h = rw is tt
+    looks_err true false archive r is h = let t = looked true false archive h in rw is (inl (refl, inr (true, false, archive, t.0, refl), t.1))
+    looks_err false true archive r is h = let t = looked false true archive h in rw is (inl (refl, inr (false, true, archive, t.0, refl), t.1))
+    looks_err false false true r is h = let t = looked false false true h in rw is (inl (refl, inr (false, false, true, t.0, refl), t.1))

@@ -1,4 +1,4 @@
--- What `put` makes of a record.
+-- What the statement that sets a row makes of the table.
 use Rattle.std.proofs.Common.{◌≡◌, inl, inr, ℕ, ℤ, Bool, true, false, ◌&&◌, ◌||◌, cond, if◌then◌else◌, List, [], ◌∷◌, ◌++◌, drop, Option, Some, None, Ok, Err, refl, sym, ap, subst, ◌∙◌, true≢false, Ordering, Less, Equal, Greater}
 use Rattle.std.specs.Str.{bytes_eq}
 use Rattle.std.specs.Ordering.{is_eq}
@@ -21,6 +21,7 @@ use Rattle.sqlite_schema.specs.declared.command.Upsert.{Upsert}
 use Rattle.sqlite_schema.specs.declared.schema.Keys.TheVariants.{Enforced}
 use Rattle.sqlite.specs.Edit.{are_fresh, edit_of, next_rowid, with_rowid, put_all, Applies}
 use Rattle.sqlite.specs.Rowids.TheVariants.{Chosen, Given}
+use Rattle.sqlite_trees.specs.Tree.{IsTable}
 use Rattle.sqlite_rules.specs.Lists.{Has}
 use Rattle.sqlite_rules.specs.Calls.{ids_of}
 use Rattle.sqlite_rules.specs.Keys.{conflicts, AreConflicts}
@@ -34,7 +35,7 @@ use Rattle.sqlite.specs.State.{State, mode_of, Executes}
 use Rattle.sqlite.proofs.Callers.{runs_as, statement_of, one_step}
 use Rattle.job_record.specs.Tables.{job_at, record_schema}
 use Rattle.job_record.specs.Statements.{put_text}
-use Rattle.job_record.specs.Map.{held, IsKeyed, IsRecord}
+use Rattle.job_record.specs.Keyed.{held_in, IsKeyed}
 use Rattle.job_record.proofs.Compiled.{query, put_command, replace_tests, replace_project, put_is, put_plain}
 use Rattle.job_record.proofs.Shapes.{laid_in}
 use Rattle.job_record.proofs.KeyTest.{texts_equal, same_text, text_itself}
@@ -43,13 +44,15 @@ use Rattle.job_record.proofs.Shown.{AreShown, shown_rows, passes}
 use Rattle.job_record.proofs.Edits.{cast_int}
 use Rattle.job_record.proofs.KeyedRows.{keyed_set, fresh_apart}
 use Rattle.job_record.proofs.Writing.{went, same_value}
-use Rattle.job_record.proofs.OneKey.{record_after, Only, replaces}
+use Rattle.job_record.proofs.OneKey.{HasTexts, Only, replaces}
+use Rattle.job_record.proofs.Standing.{AreTables, job_texts, job_alone}
+use Rattle.job_record.proofs.JobRows.{Wrote}
 
 either : (b : Bool) (x : Value) → cond b x x ≡ x
 either true x = refl
 either false x = refl
 
-cast_null : cast kind.Integer Null ≡ Null
+pub cast_null : cast kind.Integer Null ≡ Null
 unfolding unary
 cast_null = either _ Null
 
@@ -78,7 +81,7 @@ ints_equal m n = truth_of (is_eq (value_cmp (Int m) (Int n)))
 conflict_is : (new r : Row) → conflicts (Some (1 ∷ [])) record_schema.indexes (job_at 2) new r ≡ is_true (binary (Compare Eq Binary) (column r 1) (column new 1))
 conflict_is new r = rw first_key-plain (or_false _ ∙ and_true _)
 
-module _ (old new : State) (key outputs files : List ℕ) (cost archived : ℤ) (it : IsRecord old) where
+module _ (old new : State) (key outputs files : List ℕ) (cost archived : ℤ) (it : AreTables old.now) where
   abbrev params : Row
   params = Text key ∷ Text outputs ∷ Text files ∷ Int cost ∷ Int archived ∷ []
 
@@ -91,8 +94,11 @@ module _ (old new : State) (key outputs files : List ℕ) (cost archived : ℤ) 
   abbrev update : Upsert
   update = record { target = Some (1 ∷ []); update = Some (record { lets = []; body = query replace_tests replace_project [] }) }
 
-  abbrev Sets : List Row → Type 0
-  Sets after = (made : Row) × (drop 1 made ≡ params) × SetsRow table after key made × IsKeyed after
+  abbrev Sets : Trees → Type 0
+  Sets after = (made : Row) × (drop 1 made ≡ params) × SetsRow table (after 2) key made × IsKeyed (after 2) × (after 4 ≡ old.now.trees 4)
+
+  abbrev texts : HasTexts table
+  texts = job_texts old.now it
 
   -- the row that is to be inserted
   module _ (id : ℤ) (row : Row) (row_is : row ≡ Int id ∷ params) where
@@ -113,7 +119,7 @@ module _ (old new : State) (key outputs files : List ℕ) (cost archived : ℤ) 
         k ∙ ap Text (same_text laid.key key e)
 
     -- no row has the key
-    inserts : (one : Written) → Puts task row old.now.trees (Ok one) → AreConflicts (Some (1 ∷ [])) record_schema.indexes (job_at 2) table row [] → Sets (one.trees 2)
+    inserts : (one : Written) → Puts task row old.now.trees (Ok one) → AreConflicts (Some (1 ∷ [])) record_schema.indexes (job_at 2) table row [] → Sets one.trees
     inserts one puts none =
         let edit = edit_of old.now.trees (job_at 2) [] Given 0 (row ∷ []) in
         let edited = went puts in
@@ -129,7 +135,8 @@ module _ (old new : State) (key outputs files : List ℕ) (cost archived : ℤ) 
           kept = λ z h other. put_all_keeps (made ∷ []) table z fresh h;
         } in
         let k = keyed_set table (put_all table (made ∷ [])) key it.keyed made s id refl (λ z h other tie. fresh_apart table made [] z fresh h tie) in
-        subst Sets (sym after) (made, refl, s, k)
+        let four = ap (λ (t : Trees). t 4) trees ∙ job_alone old.now.trees edited.0 edit refl applies in
+        (made, refl, subst (λ l. SetsRow table l key made) (sym after) s, subst IsKeyed (sym after) k, four)
 
     -- the row that has the key is replaced
     module _ (one : Written) (there r : Row) (in_table : Has table r) (r_key : column r 1 ≡ Text key) (there_is : there ≡ rowid r ∷ []) where
@@ -158,11 +165,10 @@ module _ (old new : State) (key outputs files : List ℕ) (cost archived : ℤ) 
           let tie : value_cmp (Int j.0) (Int at_id) ≡ Equal = equal_is _ (sym (tests_is z j.0 j.1) ∙ good) in
           it.keyed.rowids z r h in_table (ap (λ (v : Value). value_cmp v (rowid r)) j.1 ∙ ap (λ (v : Value). value_cmp (Int j.0) v) id_is ∙ tie)
 
-      the_row : (x : Row) (more : List Row) → AreShown replace_tests replace_project table all_given (x ∷ more) → Only old new key it all_given replace_project x more
+      the_row : (x : Row) (more : List Row) → AreShown replace_tests replace_project table all_given (x ∷ more) → Only table it.keyed texts key all_given replace_project x more
       the_row x more shows = record {
         row = r;
         there = in_table;
-        laid = laid_in old.now it.schema it.sound r in_table;
         key_is = r_key;
         id = at_id;
         id_is = id_is;
@@ -179,38 +185,38 @@ module _ (old new : State) (key outputs files : List ℕ) (cost archived : ℤ) 
       made_of : (x : Row) → x ≡ eval_all replace_project (all_given ∷ r ∷ []) → cast_row (job_at 2) (drop 1 x) ≡ Int at_id ∷ params
       made_of x is = ap (λ (z : Row). cast_row (job_at 2) (drop 1 z)) is ∙ made_from (column r 0) (column r 1) id_is r_key
 
-      replaced_by : (rows : List Row) → AreShown replace_tests replace_project table all_given rows → (next : Trees) → Applies record_schema Enforced old.now.trees (edit_of old.now.trees (job_at 2) (ids_of rows) Given 1 rows) next → Sets (next 2)
+      replaced_by : (rows : List Row) → AreShown replace_tests replace_project table all_given rows → (next : Trees) → Applies record_schema Enforced old.now.trees (edit_of old.now.trees (job_at 2) (ids_of rows) Given 1 rows) next → Sets next
       unfolding the_row
       replaced_by [] shows next applies = absurd (shows.complete r in_table passes_itself)
       replaced_by (x ∷ more) shows next applies =
           let o = the_row x more shows in
           let made = Int at_id ∷ params in
-          let s = replaces old new key it all_given (drop 1 replace_project) x more o next applies made (made_of x o.first) refl refl in
-          (made, refl, s.0, s.1)
+          let s = replaces record_schema (job_at 2) old.now.trees it.keyed texts key next all_given (drop 1 replace_project) x more o applies made (made_of x o.first) refl refl in
+          (made, refl, s.0, s.1, job_alone old.now.trees next (edit_of old.now.trees (job_at 2) (ids_of (x ∷ more)) Given 1 (x ∷ more)) refl applies)
 
-      updates : Updates task (record { lets = []; body = query replace_tests replace_project [] }) (params ++ rowid there ∷ shown (job_at 2) row) old.now.trees (Ok one) → Sets (one.trees 2)
+      updates : Updates task (record { lets = []; body = query replace_tests replace_project [] }) (params ++ rowid there ∷ shown (job_at 2) row) old.now.trees (Ok one) → Sets one.trees
       updates h =
           let queried = went (subst (λ g. Updates task (record { lets = []; body = query replace_tests replace_project [] }) g old.now.trees (Ok one)) given_is h) in
           let edit = edit_of old.now.trees (job_at 2) (ids_of queried.0) Given 1 queried.0 in
           let edited = went queried.2 in
           let trees : one.trees ≡ edited.0 = ap (λ (w : Written). w.trees) (same_value edited.2) in
           let applies : Applies record_schema Enforced old.now.trees edit edited.0 = one_step record_schema _ old.now.trees edited.0 edit refl edited.1 in
-          subst Sets (ap (λ (t : Trees). t 2) (sym trees)) (replaced_by queried.0 (shown_rows replace_tests replace_project [] old.now.trees all_given queried.0 queried.1.answer) edited.0 applies)
+          subst Sets (sym trees) (replaced_by queried.0 (shown_rows 2 replace_tests replace_project [] old.now.trees all_given queried.0 queried.1.answer) edited.0 applies)
 
     clears : (one : Written) (found : List Row) → Clears task Abort row old.now.trees found (Ok one) → Puts task row old.now.trees (Ok one)
     clears one [] h = h
     clears one (x ∷ more) h = h
 
     upserted : (one : Written) (found : List Row) → AreConflicts (Some (1 ∷ [])) record_schema.indexes (job_at 2) table row found
-        → Meets task (Upserts task Abort row old.now.trees []) row old.now.trees update found (Ok one) → Sets (one.trees 2)
+        → Meets task (Upserts task Abort row old.now.trees []) row old.now.trees update found (Ok one) → Sets one.trees
     upserted one [] among h = inserts one (clears one h.0 h.2) among
     upserted one (x ∷ more) among h = let s = among.sound x (inl refl) in updates one x s.0 s.1 (met s.0 s.1 s.2) s.3 h
 
-    judged : (one : Written) (verdict : Option Refusal) → Judged task Abort (update ∷ []) row old.now.trees verdict (Ok one) → Sets (one.trees 2)
+    judged : (one : Written) (verdict : Option Refusal) → Judged task Abort (update ∷ []) row old.now.trees verdict (Ok one) → Sets one.trees
     judged one None h = upserted one h.0 h.1 h.2
     judged one (Some why) h = absurd (let e : Ok one ≡ Err (Some (edit_error why)) = h in cc)
 
-    tries : (one : Written) → Tries task Abort (update ∷ []) row old.now.trees (Ok one) → Sets (one.trees 2)
+    tries : (one : Written) → Tries task Abort (update ∷ []) row old.now.trees (Ok one) → Sets one.trees
     tries one (inl h) = absurd (let e = h.1 in cc)
     tries one (inr h) = judged one h.0 h.2
 
@@ -222,7 +228,7 @@ module _ (old new : State) (key outputs files : List ℕ) (cost archived : ℤ) 
   new_row_is : new_row ≡ Int (next_rowid table) ∷ params
   new_row_is = rw (cast_null, cast_int cost, cast_int archived) refl
 
-  pub puts : (count : ℕ) → Executes put_text params old new (Ok count) → IsRecord new × ((k : List ℕ) → held new k ≡ if bytes_eq k key then Some params else held old k)
+  pub puts : (count : ℕ) → Executes put_text params old new (Ok count) → Wrote old.now new.now (λ k. if bytes_eq k key then Some params else held_in table k)
   puts count h =
       let w = runs_as put_text params old new record_schema it.schema put_command put_is put_plain count h in
       let text = statement_of put_text (understood record_schema put_text) in
@@ -237,8 +243,10 @@ module _ (old new : State) (key outputs files : List ℕ) (cost archived : ℤ) 
       let s = tries (next_rowid table) new_row new_row_is one.0 one.1 in
       let last : tried.0.0.trees ≡ one.0.trees = ap (λ (p : Written × ℤ). p.0.trees) (same_value one.2) in
       let written : done.0.trees ≡ one.0.trees = ap (λ (it : Written). it.trees) (same_value counted.2) ∙ same_value counted.1 ∙ last in
-      let now : new.now.trees 2 ≡ one.0.trees 2 = ap (λ (t : Trees). t 2) (ap (λ (p : Tally × Database). p.1.trees) end ∙ written) in
-      let s : Sets (new.now.trees 2) = subst Sets (sym now) s in (
-        record_after old new put_command text params count it w (ap (λ (p : Tally × Database). p.1.schema) end) s.3,
-        λ k. set_is table (new.now.trees 2) key s.0 s.2 it.keyed.keys k ∙ ap (λ (c : Row). if bytes_eq k key then Some c else held old k) s.1,
-      )
+      let now : new.now.trees ≡ one.0.trees = ap (λ (p : Tally × Database). p.1.trees) end ∙ written in
+      let s : Sets new.now.trees = subst Sets (sym now) s in
+      record {
+        tables = record { schema = ap (λ (p : Tally × Database). p.1.schema) end; sound = w.sound; keyed = s.3; kept = subst IsKeyed (sym s.4) it.kept; ordered = subst IsTable (sym s.4) it.ordered };
+        rows_are = λ k. set_is table (new.now.trees 2) key s.0 s.2 it.keyed.keys k ∙ ap (λ (c : Row). if bytes_eq k key then Some c else held_in table k) s.1;
+        archives_are = s.4;
+      }

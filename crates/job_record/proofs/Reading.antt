@@ -24,58 +24,13 @@ use Rattle.job_rows.specs.declared.row.Row.{Row as Job}
 use Rattle.job_record.specs.Columns.{AreRowsOf}
 use Rattle.job_record.specs.Map.{IsRecord, held, by_key}
 use Rattle.job_record.proofs.KeyOrder.{rows_sorted}
-use Rattle.job_record.proofs.Compiled.{columns, names, has_key, find_query, find_is, find_plain, list_is, list_plain}
+use Rattle.job_record.proofs.Compiled.{columns, names, has_key, find_is, find_plain, list_is, list_plain}
 use Rattle.job_record.proofs.Shapes.{Laid, laid_in}
 use Rattle.job_record.proofs.Shown.{AreShown, shown_rows}
 use Rattle.job_record.proofs.RowMap.{held_row, row_held}
 use Rattle.job_record.proofs.OneKey.{lacks, only}
-
--- ---- a plain query changes nothing, and none of its refusals is the one of an empty answer
-
-module _ (sql : List ℕ) (params : Row) (old new : State) (plain : IsPlain (understood old.now.schema sql)) where
-  pub shown_same : (rows : List Row) → Shown sql params old new rows → IsUnchanged old new
-  unfolding Shown
-  shown_same rows h =
-      let none = (subst IsPlain h.1.is plain).0 in
-      (subst (ShowsRows old new sql h.0 (timed params h.0.formats h.1.now) rows) none h.2).3
-
-  pub failed_same : (e : Error) → FailsToQuery sql params old new e → IsUnchanged old new ⊎ IsRolledBack old new
-  unfolding FailsToQuery IsNotRun
-  failed_same e (inl (inl refused)) = inl refused.1
-  failed_same e (inl (inr failed)) = inr failed.3
-  failed_same e (inr h) =
-      let none = (subst IsPlain h.1.is plain).0 in
-      inl (subst (FailsToShow old new sql h.0 (timed params h.0.formats h.1.now) e) none h.2).3
-
-  pub row_same : (row : Row) → QueriesRow sql params old new (Ok row) → IsUnchanged old new
-  unfolding QueriesRow
-  row_same row (inl h) = h.1
-  row_same row (inr h) = shown_same h.0 h.1
-
-  pub error_same : (e : Error) → QueriesRow sql params old new (Err e) → IsUnchanged old new ⊎ IsRolledBack old new
-  unfolding QueriesRow
-  error_same e (inl h) = failed_same e h
-  error_same e (inr h) = inl (shown_same [] h.1)
-
-pub no_cause : (cause : StoreError) → QueryReturnedNoRows ≡ store_error cause → ⊥
-no_cause OutOfMemory h = cc
-no_cause Io h = cc
-no_cause Corrupt h = cc
-no_cause Full h = cc
-no_cause Broken h = cc
-no_cause Unstorable h = cc
-
-no_statement : (s : State) (sql : List ℕ) (params : Row) → IsNoStatement s sql params QueryReturnedNoRows → ⊥
-no_statement s sql params (inl h) = let e = h.2 in cc
-no_statement s sql params (inr h) = elim h.2 [
-  | inl a ↦ let e = a.1 in cc
-  | inr b ↦ elim b [ inl a ↦ let e = a.1 in cc | inr a ↦ let e = a.1 in cc ]
-]
-
-no_refusal : (limit : Option ℕ) (q : Program) (shown : List (List ℕ)) (db : Database) (params : Row) → RefusesToRead limit (Select q shown) db params QueryReturnedNoRows → ⊥
-no_refusal limit q shown db params (inl h) = let e = h.0 in cc
-no_refusal limit q shown db params (inr (inl h)) = let e = h.0 in cc
-no_refusal limit q shown db params (inr (inr h)) = let e = h.0 in cc
+use Rattle.job_record.proofs.Queries.{shown_same, no_rows}
+use Rattle.job_record.proofs.Standing.{job_texts, tables_in}
 
 -- ---- the query for a key
 
@@ -92,32 +47,21 @@ module _ (old new : State) (key : List ℕ) (it : IsRecord old) where
   pub row_found : (row : Row) → QueriesRow find_text params old new (Ok row) → held old key ≡ Some row
   row_found row h =
       let got = (first_as find_text params old new record_schema it.schema _ find_is.0 find_plain find_is.1 row h).1 in
-      let shown = shown_rows has_key columns [] old.now.trees params (row ∷ got.0) got.1 in
-      let o = only old new key it columns row got.0 shown in
-      held_row (old.now.trees 2) key it.keyed.keys o.row o.there o.key_is ∙ ap Some (sym (shown_is o.row o.laid) ∙ sym o.first)
+      let shown = shown_rows 2 has_key columns [] old.now.trees params (row ∷ got.0) got.1 in
+      let t = tables_in old it in
+      let o = only (old.now.trees 2) it.keyed (job_texts old.now t) key [] columns row got.0 shown in
+      held_row (old.now.trees 2) key it.keyed.keys o.row o.there o.key_is ∙ ap Some (sym (shown_is o.row (laid_in old.now t.schema t.sound o.row o.there)) ∙ sym o.first)
 
-  shows_none : FailsToQuery find_text params old new QueryReturnedNoRows → ⊥
-  unfolding FailsToQuery IsNotRun
-  shows_none (inl (inl refused)) = no_statement old find_text params refused.0
-  shows_none (inl (inr failed)) = no_cause failed.0 failed.1
-  shows_none (inr h) =
-      let none = (subst IsPlain h.1.is find_is_plain).0 in
-      let full = timed params h.0.formats h.1.now in
-      let refuses = subst (FailsToShow old new find_text h.0 full QueryReturnedNoRows) none h.2 in
-      let command = ap command_of (sym h.1.is ∙ ap (λ s. understood s find_text) it.schema) ∙ find_is.0 in
-      no_refusal old.step_limit (record { lets = []; body = find_query }) names refuses.0 full (subst (λ c. RefusesToRead old.step_limit c refuses.0 full QueryReturnedNoRows) command refuses.2)
+  shows_none : QueriesRow find_text params old new (Err QueryReturnedNoRows) → Shown find_text params old new []
+  shows_none = no_rows find_text params old new record_schema it.schema _ _ find_is.0 find_plain
 
   pub none_found : QueriesRow find_text params old new (Err QueryReturnedNoRows) → held old key ≡ None
-  unfolding QueriesRow
-  none_found (inl h) = absurd (shows_none h)
-  none_found (inr h) =
-      let read = reads_as find_text params old new record_schema it.schema _ find_is.0 find_plain find_is.1 [] h.1 in
-      lacks old new key it columns (shown_rows has_key columns [] old.now.trees params [] read.answer)
+  none_found h =
+      let read = reads_as find_text params old new record_schema it.schema _ find_is.0 find_plain find_is.1 [] (shows_none h) in
+      lacks (old.now.trees 2) it.keyed (job_texts old.now (tables_in old it)) key [] columns (shown_rows 2 has_key columns [] old.now.trees params [] read.answer)
 
   pub none_same : QueriesRow find_text params old new (Err QueryReturnedNoRows) → IsUnchanged old new
-  unfolding QueriesRow
-  none_same (inl h) = absurd (shows_none h)
-  none_same (inr h) = shown_same find_text params old new find_is_plain [] h.1
+  none_same h = shown_same find_text params old new find_is_plain [] (shows_none h)
 
 -- ---- the query for all rows
 
@@ -131,7 +75,7 @@ module _ (old new : State) (it : IsRecord old) where
   pub all_found : (all : List Row) → Shown list_text [] old new all → AreShown [] columns table [] all
   all_found all h =
       let read = reads_as list_text [] old new record_schema it.schema _ list_is.0 list_plain list_is.1 all h in
-      shown_rows [] columns ((col 1 1, ascending Binary) ∷ []) old.now.trees [] all read.answer
+      shown_rows 2 [] columns ((col 1 1, ascending Binary) ∷ []) old.now.trees [] all read.answer
 
   row_is : (r : Row) → Laid r → eval_all columns ([] ∷ r ∷ []) ≡ drop 1 r
   row_is r laid = ap (λ (z : Row). eval_all columns ([] ∷ z ∷ [])) laid.is ∙ ap (λ (z : Row). drop 1 z) (sym laid.is)

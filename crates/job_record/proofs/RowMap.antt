@@ -7,7 +7,7 @@ use Rattle.sqlite.specs.declared.types.Value.TheVariants.{Null, Int, Real, Text,
 use Rattle.sqlite.specs.Order.{Row, column}
 use Rattle.sqlite_rules.specs.Lists.{Has}
 use Rattle.sqlite_rules.proofs.ListLemmas.{has_found}
-use Rattle.job_record.specs.Map.{is_text, is_keyed, held_in, AreKeysApart}
+use Rattle.job_record.specs.Keyed.{is_text, is_keyed, held_in, AreKeysApart}
 use Rattle.job_record.proofs.KeyTest.{same_text, text_itself}
 
 text_is : (key : List ℕ) (v : Value) → is_text key v ≡ true → v ≡ Text key

@@ -45,14 +45,14 @@ end5 : (a b c d e : Bool) → (a && (b && (c && (d && (e && false))))) ≡ true 
 end5 true b c d e h = end4 b c d e h
 end5 false b c d e h = none h
 
-text_in : (v : Value) → is_of kind.Text v ≡ true → is_null v ≡ false → (t : List ℕ) × (v ≡ Text t)
+pub text_in : (v : Value) → is_of kind.Text v ≡ true → is_null v ≡ false → (t : List ℕ) × (v ≡ Text t)
 text_in Null h n = absurd (true≢false n)
 text_in (Int i) h n = absurd (none h)
 text_in (Real x) h n = absurd (none h)
 text_in (Text t) h n = (t, refl)
 text_in (Blob b) h n = absurd (none h)
 
-int_in : (v : Value) → is_of kind.Integer v ≡ true → is_null v ≡ false → (i : ℤ) × (v ≡ Int i)
+pub int_in : (v : Value) → is_of kind.Integer v ≡ true → is_null v ≡ false → (i : ℤ) × (v ≡ Int i)
 int_in Null h n = absurd (true≢false n)
 int_in (Int i) h n = (i, refl)
 int_in (Real x) h n = absurd (none h)
@@ -87,7 +87,7 @@ laid id (a ∷ b ∷ c ∷ d ∷ e ∷ []) t p =
     made id a b c d e k.0 o.0 f.0 m.0 n.0 k.1 o.1 f.1 m.1 n.1
 laid id (a ∷ b ∷ c ∷ d ∷ e ∷ f ∷ more) t p = absurd (end5 (is_of kind.Text a) (is_of kind.Text b) (is_of kind.Text c) (is_of kind.Integer d) (is_of kind.Integer e) t)
 
-laid_row : (r : Row) → are_typed (job_at 2).key 0 (job_at 2).columns (drop 1 r) ≡ true → are_present (job_at 2).key 0 (job_at 2).columns r ≡ true → Laid r
+pub laid_row : (r : Row) → are_typed (job_at 2).key 0 (job_at 2).columns (drop 1 r) ≡ true → are_present (job_at 2).key 0 (job_at 2).columns r ≡ true → Laid r
 laid_row [] t p = absurd (none p)
 laid_row (id ∷ vs) t p = laid id vs t p
 

@@ -1,5 +1,5 @@
 -- The columns of a record read as some map of rows.
-use Rattle.std.proofs.Common.{◌≡◌, ◌⊎◌, inl, inr, ℕ, ℤ, pos, negsuc, Bool, true, false, true≢false, not, List, Option, Some, None, Ok, Err, refl, sym, ap, subst, ◌∙◌, rules, arith}
+use Rattle.std.proofs.Common.{◌≡◌, ◌⊎◌, inl, inr, ℕ, ℤ, pos, negsuc, Bool, true, false, true≢false, not, List, [], ◌∷◌, Option, Some, None, Ok, Err, refl, sym, ap, subst, ◌∙◌, rules, arith}
 use Rattle.std.specs.Ordering.{int_eq}
 use Rattle.std.specs.Str.{is_utf8}
 use Rattle.std.specs.Prelude.{IsUtf8}
@@ -7,6 +7,7 @@ use Rattle.std.proofs.lemmas.Bool.{cases_Bool}
 use Rattle.std.proofs.lemmas.Str.{IsUtf8-from_is_utf8, is_utf8-from_IsUtf8}
 use Rattle.sqlite.specs.declared.types.Value.TheVariants.{Int, Text}
 use Rattle.sqlite.specs.Order.{Row as Columns}
+use Rattle.sqlite.specs.Effect.{Database}
 use Rattle.sqlite.specs.State.{State}
 use Rattle.serde_json.specs.Data.{Data}
 use Rattle.serde_json.specs.Read.{read}
@@ -21,9 +22,9 @@ use Rattle.cwl_value.proofs.Induction.{Cases, induction}
 use Rattle.staging.specs.declared.found.Found.{Found}
 use Rattle.job_rows.specs.Map.{Kept, reads, unread}
 use Rattle.job_record.specs.Texts.{files_in, ReadsAsFiles}
-use Rattle.job_record.specs.Map.{held, IsRecord}
+use Rattle.job_record.specs.Map.{KeyMap, HoldsMap}
 use Rattle.job_record.specs.Rows.{AreKeptAs, HasRows}
-use Rattle.job_record.proofs.HeldRow.{literal, held_literal}
+use Rattle.job_record.proofs.KeptInStep.{literal_of}
 use Rattle.job_record.proofs.OneRow.{Named, read_in, text_reads, out-Fields}
 
 -- it is so of some, or of none
@@ -88,7 +89,7 @@ cost_of (negsuc n) = inr (λ k e. cc)
 
 module _ (k o f : List ℕ) (m a : ℤ) where
   abbrev columns : Columns
-  columns = literal k o f m a
+  columns = Text k ∷ Text o ∷ Text f ∷ Int m ∷ Int a ∷ []
 
   not_utf8 : (text other : List ℕ) → is_utf8 text ≡ false → Text text ≡ Text other → IsUtf8 other → ⊥
   not_utf8 text other lacks same utf8 = let one : other ≡ text = cc in true≢false (sym (is_utf8-from_IsUtf8 text (subst IsUtf8 one utf8)) ∙ lacks)
@@ -125,12 +126,15 @@ module _ (k o f : List ℕ) (m a : ℤ) where
 
 -- ---- the record
 
-kept_at : (s : State) → IsRecord s → (key : List ℕ) (o : Option Columns) → held s key ≡ o → (kept : Option Kept) × AreKeptAs o kept
-kept_at s it key None is = (None, tt)
-kept_at s it key (Some c) is =
-    let l = held_literal s it key c is in
+kept_at : (db : Database) (columns : KeyMap) → HoldsMap db columns → (key : List ℕ) (o : Option Columns) → columns.rows key ≡ o → (kept : Option Kept) × AreKeptAs o kept
+kept_at db columns it key None is = (None, tt)
+kept_at db columns it key (Some c) is =
+    let l = literal_of db columns it key c is in
     let k = literal_kept l.key l.outputs l.files l.cost l.archived in
     (Some k.0, subst (λ (d : Columns). AreKeptAs (Some d) (Some k.0)) (sym l.is) k.1)
 
 pub has_rows : (s : State) → HasRows s
-has_rows s it = (λ key. (kept_at s it key (held s key) refl).0, λ key. (kept_at s it key (held s key) refl).1)
+has_rows s columns it = (
+  record { rows = λ key. (kept_at s.now columns it.holds key (columns.rows key) refl).0; archives = columns.archives; budget = columns.budget },
+  record { rows = λ key. (kept_at s.now columns it.holds key (columns.rows key) refl).1; archives = refl; budget = refl },
+)

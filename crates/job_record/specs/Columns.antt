@@ -1,5 +1,5 @@
 -- A row as the columns of its table: key, outputs, files, cost, archived.
-use Rattle.std.specs.Prelude.{◌≡◌, ◌⊎◌, ◌<◌, ◌-◌, ◌^◌, ℕ, min, ℤ, pos, not, List, length, if◌then◌else◌, [], ◌∷◌, IsUtf8}
+use Rattle.std.specs.Prelude.{◌≡◌, ◌≢◌, ◌⊎◌, ◌<◌, ◌-◌, ◌^◌, ℕ, min, ℤ, pos, not, List, length, if◌then◌else◌, [], ◌∷◌, IsUtf8}
 use Rattle.std.specs.Ordering.{int_eq}
 use Rattle.sqlite.specs.declared.types.Value.{Value as SqlValue}
 use Rattle.sqlite.specs.declared.types.Value.TheVariants.{Int, Text}
@@ -52,6 +52,10 @@ AreKeysOf _ _ = ⊥
 -- they begin with no text in UTF-8
 abbrev pub HasNoKey : Columns → Type 0
 HasNoKey c = 0 < length c → (key : List ℕ) → ¬ IsText (column c 0) key
+
+-- they begin with no natural number
+abbrev pub HasNoNumber : Columns → Type 0
+HasNoNumber c = 0 < length c → (n : ℕ) → column c 0 ≢ Int (pos n)
 
 -- Out of memory, in the record or in the store, or else R1 for this cause.
 abbrev pub Misreads : Type 0 → RecordFault → Type 0

@@ -2,11 +2,16 @@ pub mod Texts
 pub mod Columns
 pub mod Statements
 pub mod Tables
+pub mod Keyed
+pub mod Archives
 pub mod Map
+pub mod Counted
 pub mod RecordMap
+pub mod Blame
 pub mod Log
 pub mod Opening
 pub mod OpenMap
 pub mod Crash
 pub mod Rows
+pub mod Seen
 pub mod inner

@@ -15,7 +15,7 @@ abbrev pub make_job : List ℕ
 make_job = codes "CREATE TABLE job (key TEXT PRIMARY KEY, outputs TEXT NOT NULL, files TEXT NOT NULL, cost INTEGER NOT NULL CHECK (cost BETWEEN 1 AND 1000000000000), archived INTEGER NOT NULL CHECK (archived IN (0, 1))) STRICT"
 
 abbrev pub note_version : List ℕ
-note_version = codes "INSERT INTO meta (name, value) VALUES ('version', 1)"
+note_version = codes "INSERT INTO meta (name, value) VALUES ('version', 2)"
 
 abbrev pub version_text : List ℕ
 version_text = codes "SELECT value FROM meta WHERE name = 'version'"

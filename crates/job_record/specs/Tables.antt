@@ -1,4 +1,4 @@
--- The two tables, as `sqlite` knows them once it has run the statements that make them.
+-- The three tables, as `sqlite` knows them once it has run the statements that make them.
 use Rattle.std.specs.Prelude.{ℕ, pos, List, [], ◌∷◌, codes, true, false, None}
 use Rattle.sqlite.specs.Collation.TheVariants.{Binary}
 use Rattle.sqlite.specs.declared.types.Value.TheVariants.{Null, Int}
@@ -43,6 +43,10 @@ job_checks =
     op2 And (op2 (Compare Ge Binary) (col 1 4) (lit (Int (pos 1)))) (op2 (Compare Le Binary) (col 1 4) (lit (Int (pos 1000000000000))))
     ∷ op2 Or (is_number (col 1 5) 0) (is_number (col 1 5) 1) ∷ []
 
+-- an archive has some bytes and the number of a use
+abbrev pub archive_checks : List Term
+archive_checks = op2 (Compare Ge Binary) (col 1 2) (lit (Int (pos 0))) ∷ op2 (Compare Ge Binary) (col 1 3) (lit (Int (pos 1))) ∷ []
+
 -- each at the number of its tree
 abbrev pub meta_at : ℕ → Table
 meta_at tree = keyed_table (codes "meta") tree (field (codes "name") Text ∷ field (codes "value") Integer ∷ []) []
@@ -51,9 +55,24 @@ abbrev pub job_at : ℕ → Table
 job_at tree =
     keyed_table (codes "job") tree (field (codes "key") Text ∷ field (codes "outputs") Text ∷ field (codes "files") Text ∷ field (codes "cost") Integer ∷ field (codes "archived") Integer ∷ []) job_checks
 
+-- no two archives have the number of one use
+abbrev pub archive_at : ℕ → Table
+archive_at tree = record (keyed_table (codes "archive") tree (field (codes "key") Text ∷ field (codes "bytes") Integer ∷ field (codes "used") Integer ∷ []) archive_checks) {
+  uniques = (1 ∷ []) ∷ (3 ∷ []) ∷ [];
+  orders = plain ∷ plain ∷ [];
+}
+
 abbrev pub no_schema : Schema
 no_schema = record { tables = []; indexes = []; views = [] }
 
--- the tables of a store that was empty: `meta` is tree 0 and its index 1, `job` is tree 2 and its index 3
+-- the tables of version 1 in a store that was empty: `meta` is tree 0 and its index 1, `job` is tree 2 and its index 3
+abbrev pub first_schema : Schema
+first_schema = record { tables = meta_at 0 ∷ job_at 2 ∷ []; indexes = automatic (meta_at 0) 0 (1 ∷ []) 1 ∷ automatic (job_at 2) 0 (1 ∷ []) 3 ∷ []; views = [] }
+
+-- and of version 2: `archive` is tree 4, its index by key 5, and that by use 6
 abbrev pub record_schema : Schema
-record_schema = record { tables = meta_at 0 ∷ job_at 2 ∷ []; indexes = automatic (meta_at 0) 0 (1 ∷ []) 1 ∷ automatic (job_at 2) 0 (1 ∷ []) 3 ∷ []; views = [] }
+record_schema = record {
+  tables = meta_at 0 ∷ job_at 2 ∷ archive_at 4 ∷ [];
+  indexes = automatic (meta_at 0) 0 (1 ∷ []) 1 ∷ automatic (job_at 2) 0 (1 ∷ []) 3 ∷ automatic (archive_at 4) 0 (1 ∷ []) 5 ∷ automatic (archive_at 4) 1 (3 ∷ []) 6 ∷ [];
+  views = [];
+}

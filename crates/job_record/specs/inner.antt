@@ -1,2 +1,4 @@
 pub mod Crash
+pub mod Inside
 pub mod Lacking
+pub mod Opened

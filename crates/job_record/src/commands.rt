@@ -1,17 +1,21 @@
 //! The commands, from rows to the statements of their tables.
 
-ghost use Rattle.std.specs.Prelude.{◌≡◌, ◌+◌, ◌++◌, ◌≤◌, [], Any, IfOk, IfSome, IfErr, OnOk};
+ghost use Rattle.std.specs.Prelude.{◌≡◌, false, ◌+◌, ◌++◌, ◌≤◌, [], Any, IfOk, IfSome, IfErr, OnOk};
 ghost use Rattle.std.specs.Vec.{vec_len, vec_capacity};
-ghost use Rattle.sqlite.specs.State.{HasCleanDisk, Survives, CommitsBy, CommitsShowing};
+ghost use Rattle.sqlite.specs.State.{HasCleanDisk, Survives, CommitsShowing};
 ghost use Rattle.sqlite.specs.Held.{state};
 ghost use Rattle.job_rows.specs.Log.{entries_of};
-ghost use Rattle.job_record.specs.Statements.{find_text, list_text, put_text, key_params, put_params};
+ghost use Rattle.job_record.specs.Statements.{find_text, list_text, key_params};
 ghost use Rattle.job_rows.specs.Storable.{IsKept};
+ghost use Rattle.job_rows.specs.Map.{fits};
 ghost use Rattle.job_record.specs.Texts.{ReadsBack};
 ghost use Rattle.job_record.specs.Columns.{IsRowOf, IsUnread, AreRowsOf, AreKeysOf, HasNoKey, Misreads};
-ghost use Rattle.job_record.specs.RecordMap.{Finds, Puts, Lists, ListsKeys, changed};
-ghost use Rattle.job_record.specs.inner.Crash.{RunsOpen, ChangesOpen};
+ghost use Rattle.job_record.specs.RecordMap.{Finds, Lists, ListsKeys};
+ghost use Rattle.job_record.specs.Map.{kept_as};
+ghost use Rattle.job_record.specs.inner.Crash.{RunsOpen};
+ghost use Rattle.job_record.specs.inner.Inside.{IsStorable, putting_of};
 
+use crate::changes::Putting;
 use crate::fault::RecordFault;
 use crate::tables;
 use crate::texts::{row_of, stored_of};
@@ -62,6 +66,7 @@ pub fn look_up<S: Alter>(
         (CommitsShowing find_text (key_params key.now) (state S.Store conn.old)) }
     ensures open { HasCleanDisk (state S.Store conn.new)
         → RunsOpen (state S.Store conn.old) (state S.Store conn.new) }
+    ensures mode { conn.old.in_transaction ≡ false → conn.new.in_transaction ≡ false }
 {
     match tables::find(conn, key) {
         Ok(Some(columns)) => match read_row(alloc, &columns) {
@@ -74,33 +79,28 @@ pub fn look_up<S: Alter>(
     }
 }
 
-/// Sets the row of its key.
-pub fn set<S: Alter>(alloc: Global, conn: &mut Connection<S>, row: &Row) -> Result<(), RecordFault>
-    ensures puts { HasCleanDisk (state S.Store conn.new)
-        → Puts S.Store conn.old conn.new row.now result }
-    ensures survives { Survives (state S.Store conn.old) (state S.Store conn.new)
-        (CommitsBy put_text (put_params row.now) (state S.Store conn.old)) }
-    ensures open { HasCleanDisk (state S.Store conn.new)
-        → ChangesOpen (state S.Store conn.old) (state S.Store conn.new) result }
-    ensures reads_back { OnOk result (IsKept row.now.outputs → ReadsBack row.now) }
+/// The row as it is put: its texts say that it is archived where its archive alone is within the budget.
+pub fn putting_of(alloc: Global, row: &Row, budget: Option<u64>) -> Result<Putting, AllocError>
+    ensures is { IfOk result (λ putting. putting ≡ putting_of budget row.now) }
+    ensures reads_back { IfOk result (λ _. IsKept row.now.outputs
+        → ReadsBack (kept_as budget row.now)) }
+    ensures storable { IfOk result IsStorable }
 {
-    let Ok(stored) = stored_of(alloc, row) else {
-        return Err(RecordFault::OutOfMemory);
-    };
-    match tables::put(conn, &stored) {
-        Ok(_) => Ok(()),
-        Err(error) => Err(RecordFault::Store(error)),
-    }
+    let bytes = row.bytes();
+    let archived = row.archived && fits(bytes, budget);
+    Ok(Putting {
+        stored: stored_of(alloc, row, archived)?,
+        bytes,
+        is_asked: row.archived,
+    })
 }
 
-/// What a change of the row with a key is answered: R3 where it met none.
-pub fn change_of(met: Result<usize, Error>) -> Result<(), RecordFault>
-    ensures { result ≡ changed met }
+fn fits(bytes: u64, budget: Option<u64>) -> bool
+    ensures { result ≡ fits bytes budget }
 {
-    match met {
-        Ok(0) => Err(RecordFault::NoRow),
-        Ok(_) => Ok(()),
-        Err(error) => Err(RecordFault::Store(error)),
+    match budget {
+        Some(budget) => bytes <= budget,
+        None => true,
     }
 }
 
@@ -114,6 +114,7 @@ pub fn read_all<S: Alter>(
         (CommitsShowing list_text [] (state S.Store conn.old)) }
     ensures open { HasCleanDisk (state S.Store conn.new)
         → RunsOpen (state S.Store conn.old) (state S.Store conn.new) }
+    ensures mode { conn.old.in_transaction ≡ false → conn.new.in_transaction ≡ false }
 {
     match tables::list(conn) {
         Ok(columns) => read_rows(alloc, columns.as_slice()),
@@ -150,6 +151,7 @@ pub fn all_keys<S: Alter>(
         (CommitsShowing list_text [] (state S.Store conn.old)) }
     ensures open { HasCleanDisk (state S.Store conn.new)
         → RunsOpen (state S.Store conn.old) (state S.Store conn.new) }
+    ensures mode { conn.old.in_transaction ≡ false → conn.new.in_transaction ≡ false }
 {
     match tables::list(conn) {
         Ok(columns) => read_keys(alloc, columns.as_slice()),

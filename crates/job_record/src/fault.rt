@@ -14,10 +14,12 @@ pub enum RecordFault {
     NotARecord,
     /// R2: the record is of another version.
     WrongVersion,
-    /// R3: no row has this key.
+    /// R3: no row has this key, or for a use no archived row.
     NoRow,
     /// R4: the store refused.
     Store(StoreError),
+    /// R5: no number is left for the next use of an archive.
+    UsesSpent,
     OutOfMemory,
 }
 
@@ -25,7 +27,7 @@ impl RecordFault {
     ghost use Rattle.std.specs.Prelude.{◌≡◌};
     ghost use Rattle.job_record.specs.Log.{code_of};
 
-    /// The fault's short name, from `R1` to `R4`, or `OutOfMemory`.
+    /// The fault's short name, from `R1` to `R5`, or `OutOfMemory`.
     pub fn code(&self) -> &'static str
         ensures { result.now ≡ code_of self.now }
     {
@@ -34,6 +36,7 @@ impl RecordFault {
             RecordFault::WrongVersion => "R2",
             RecordFault::NoRow => "R3",
             RecordFault::Store(_) => "R4",
+            RecordFault::UsesSpent => "R5",
             RecordFault::OutOfMemory => "OutOfMemory",
         }
     }
@@ -46,6 +49,9 @@ impl fmt::Display for RecordFault {
             RecordFault::WrongVersion => f.write_str("R2: the record has another version"),
             RecordFault::NoRow => f.write_str("R3: no row has this key"),
             RecordFault::Store(cause) => write!(f, "R4: {cause}"),
+            RecordFault::UsesSpent => {
+                f.write_str("R5: no number is left for the use of an archive")
+            }
             RecordFault::OutOfMemory => f.write_str("out of memory"),
         }
     }
@@ -96,6 +102,7 @@ pub fn told_of<T>(answer: &Result<T, RecordFault>) -> Option<Result<(), RecordRe
         Err(RecordFault::WrongVersion) => Some(Err(RecordRefusal::WrongVersion)),
         Err(RecordFault::NoRow) => Some(Err(RecordRefusal::NoRow)),
         Err(RecordFault::Store(_)) => Some(Err(RecordRefusal::Store)),
+        Err(RecordFault::UsesSpent) => Some(Err(RecordRefusal::UsesSpent)),
         Err(RecordFault::OutOfMemory) => None,
     }
 }
@@ -109,6 +116,7 @@ pub fn error_of(fault: RecordFault) -> RecordError
         RecordFault::WrongVersion => RecordError::Refused(RecordRefusal::WrongVersion),
         RecordFault::NoRow => RecordError::Refused(RecordRefusal::NoRow),
         RecordFault::Store(_) => RecordError::Refused(RecordRefusal::Store),
+        RecordFault::UsesSpent => RecordError::Refused(RecordRefusal::UsesSpent),
         RecordFault::OutOfMemory => RecordError::OutOfMemory,
     }
 }

@@ -1,22 +1,24 @@
-ghost use Rattle.std.specs.Prelude.{◌≡◌, ◌≢◌, [], false, Ok, Err, IfOk, IfSome, IfErr, OnOk};
-ghost use Rattle.sqlite.specs.State.{HasCleanDisk, KeepsCommit, Survives, CommitsBy, CommitsShowing};
+ghost use Rattle.std.specs.Prelude.{◌≡◌, [], false, None, Ok, Err, IfOk, IfSome, IfErr, OnOk, OnErr};
+ghost use Rattle.sqlite.specs.State.{HasCleanDisk, KeepsCommit, Survives, CommitsShowing};
 ghost use Rattle.sqlite.specs.Held.{state};
-ghost use Rattle.job_record.specs.Statements.{find_text, list_text, put_text, drop_archive_text, forget_text, key_params, put_params};
-ghost use Rattle.job_record.specs.declared.fault.RecordFault.TheVariants.{NoRow};
-ghost use Rattle.job_record.specs.RecordMap.{Finds, Puts, Changes, Lists, ListsKeys, AnswersOpen};
-ghost use Rattle.job_record.specs.Map.{IsRecord, FindsIn, PutsIn, DropsIn, ForgetsIn, ListsIn, KeysIn};
+ghost use Rattle.job_record.specs.Statements.{find_text, list_text, key_params};
+ghost use Rattle.job_record.specs.RecordMap.{Finds, Lists, ListsKeys, AnswersOpen};
+ghost use Rattle.job_record.specs.Map.{IsRecord, IsRecordOf, FindsIn, PutsIn, TouchesIn, ChangesIn, ListsIn, KeysIn, sets, touches, unarchives, forgets, changed_by, kept_as};
+ghost use Rattle.job_record.specs.Blame.{Blames, put_texts, touch_texts, drop_texts, forget_texts};
 ghost use Rattle.job_record.specs.Log.{Logs};
+ghost use Rattle.job_record.specs.Counted.{IsCount, FitsSpace};
 ghost use Rattle.job_record.specs.Rows.{OpensWithRows};
 ghost use Rattle.job_record.specs.Texts.{ReadsBack};
 ghost use Rattle.job_rows.specs.Storable.{IsKept};
-ghost use Rattle.job_record.specs.Opening.{Opens};
+ghost use Rattle.job_record.specs.Opening.{Opens, begun};
 ghost use Rattle.job_record.specs.OpenMap.{OpensAs, RefusesAs, CrashesAs};
-ghost use Rattle.job_record.specs.Crash.{sets, unarchives, forgets, ChangesSafely, ReadsSafely, OpensSafely, RefusesSafely};
+ghost use Rattle.job_record.specs.Crash.{ChangesSafely, CrashesWhole, ReadsSafely, OpensSafely, RefusesSafely};
+ghost use Rattle.job_record.specs.inner.Inside.{done_of, space_without, total_without};
 
-use crate::commands::{all_keys, change_of, look_up, note, read_all, room, set};
+use crate::changes::{self, Space};
+use crate::commands::{all_keys, look_up, note, putting_of, read_all, room};
 use crate::fault::{RecordFault, told_of};
 use crate::making::open_tables;
-use crate::tables;
 use job_rows::{Command, Entry, Row};
 use plain_data::{Items, Text};
 use sqlite::{Alter, Connection};
@@ -26,7 +28,10 @@ use std::alloc::Global;
 pub struct JobRecord<S: Alter> {
     alloc: Global,
     conn: Connection<S>,
+    // How many bytes the archives may have, and have together as far as that was counted. After a refusal it is counted afresh.
+    space: Space,
     log: Vec<Entry>,
+    ghost idle: { conn.in_transaction ≡ false },
 }
 
 // It is written out, so that a caller does not prove again how each part is dropped.
@@ -35,22 +40,26 @@ impl<S: Alter + Drop> Drop for JobRecord<S> {
         let JobRecord {
             alloc: _,
             conn: _,
+            space: _,
             log: _,
         } = self;
     }
 }
 
 impl<S: Alter + Drop> JobRecord<S> {
-    /// Opens the record in a store, or makes one where the store has neither of its tables. Looks at the tables and the
-    /// version, and at no row: `find` and `list` refuse the rows that do not read. A refusal hands the connection back.
+    /// Opens the record in a store, or makes one where the store has none of its tables. The archives may have together at most as
+    /// many bytes as the budget, if there is one. Looks at the tables and the version, and at no row: `find` and `list` refuse the
+    /// rows that do not read. A record of version 1 is made one of version 2: then the files of its archived rows are read. A
+    /// refusal hands the connection back.
     ///
     /// # Errors
     ///
-    /// R1 where the store has one table without the other, a table without a column, or no version; R2 where the version
-    /// is another one; R4.
+    /// R1 where the store lacks a table that its version has, or has one more, a table lacks a column, there is no version, or
+    /// files of version 1 do not read; R2 where the version is another one; R4.
     pub fn open_record(
         alloc: Global,
         mut conn: Connection<S>,
+        budget: Option<u64>,
     ) -> Result<JobRecord<S>, (RecordFault, Connection<S>)>
         requires { conn.in_transaction ≡ false }
         ensures opens { IfOk result (λ opened. HasCleanDisk (state S.Store opened.conn)
@@ -58,7 +67,7 @@ impl<S: Alter + Drop> JobRecord<S> {
         ensures refused { IfErr result (λ left. HasCleanDisk (state S.Store left.1)
             → Opens S.Store conn left.1 (Err left.0)) }
         ensures map { IfOk result (λ opened. HasCleanDisk (state S.Store opened.conn)
-            → OpensAs (state S.Store conn) (state S.Store opened.conn)) }
+            → OpensAs budget (state S.Store conn) (state S.Store opened.conn)) }
         ensures stays { IfErr result (λ left. HasCleanDisk (state S.Store left.1)
             → RefusesAs (state S.Store conn) (state S.Store left.1)) }
         ensures crash { IfOk result
@@ -66,17 +75,23 @@ impl<S: Alter + Drop> JobRecord<S> {
         ensures crash_refused { IfErr result
             (λ left. CrashesAs (state S.Store conn) (state S.Store left.1)) }
         ensures safe { IfOk result (λ opened. HasCleanDisk (state S.Store opened.conn)
-            → OpensSafely (state S.Store conn) (state S.Store opened.conn)) }
+            → OpensSafely budget (state S.Store conn) (state S.Store opened.conn)) }
         ensures safe_refused { IfErr result (λ left. HasCleanDisk (state S.Store left.1)
             → RefusesSafely (state S.Store conn) (state S.Store left.1)) }
         ensures rows { IfOk result (λ opened. HasCleanDisk (state S.Store opened.conn)
-            → OpensWithRows (state S.Store conn) (state S.Store opened.conn)) }
+            → OpensWithRows budget (state S.Store conn) (state S.Store opened.conn)) }
+        ensures space { IfOk result
+            (λ opened. opened.space ≡ record { budget = budget; counted = None }) }
         ensures log { IfOk result (λ opened. opened.log.items ≡ []) }
     {
-        match open_tables(&mut conn) {
+        match open_tables(alloc, &mut conn) {
             Ok(()) => Ok(JobRecord {
                 alloc,
                 conn,
+                space: Space {
+                    budget,
+                    counted: None,
+                },
                 log: Vec::new(alloc),
             }),
             Err(fault) => Err((fault, conn)),
@@ -90,6 +105,7 @@ impl<S: Alter + Drop> JobRecord<S> {
         let JobRecord {
             alloc: _,
             conn,
+            space: _,
             log: _,
         } = self;
         conn
@@ -123,6 +139,7 @@ impl<S: Alter> JobRecord<S> {
             → ReadsSafely (state S.Store self.old.conn) (state S.Store self.new.conn) }
         ensures open { HasCleanDisk (state S.Store self.new.conn)
             → AnswersOpen (state S.Store self.old.conn) result }
+        ensures space { self.new.space ≡ self.old.space }
         ensures log { Logs Command.Find key.now result self.old.log.items self.new.log.items }
     {
         let noted = room(self.alloc, &mut self.log, key)?;
@@ -131,34 +148,123 @@ impl<S: Alter> JobRecord<S> {
         answer
     }
 
-    /// Sets the row of its key. A refusal commits nothing.
+    /// Sets the row of its key, and answers the keys that are without their archive by it. A refusal commits nothing.
     ///
     /// # Errors
     ///
-    /// R4, also where the cost is not from 1 to 10^12; out of memory.
-    #[tactic(auto, using(crate::proofs::Refused::put_keeps, crate::proofs::MapSteps::put_is_map))]
-    pub fn put(&mut self, row: &Row) -> Result<(), RecordFault>
-        ensures puts { HasCleanDisk (state S.Store self.new.conn)
-            → Puts S.Store self.old.conn self.new.conn row.now result }
-        ensures kept { HasCleanDisk (state S.Store self.new.conn)
-            → IfErr result (λ _. KeepsCommit (state S.Store self.old.conn)
-            (state S.Store self.new.conn)) }
+    /// R4, also where the cost is not from 1 to 10^12; R5 where no number is left for its archive; out of memory.
+    #[tactic(auto, using(crate::proofs::Asked::idle_stands, crate::proofs::Asked::idle_keeps, crate::proofs::Asked::idle_whole, crate::proofs::Asked::idle_safe))]
+    pub fn put(&mut self, row: &Row) -> Result<Items<Text>, RecordFault>
         ensures map { HasCleanDisk (state S.Store self.new.conn)
-            → IsRecord (state S.Store self.old.conn)
-            → PutsIn (state S.Store self.old.conn) (state S.Store self.new.conn) row.now result }
-        ensures survives { Survives (state S.Store self.old.conn) (state S.Store self.new.conn)
-            (CommitsBy put_text (put_params row.now) (state S.Store self.old.conn)) }
+            → (map : _) → FitsSpace self.old.space map
+            → IsRecordOf (state S.Store self.old.conn) map
+            → PutsIn map (state S.Store self.old.conn)
+            (state S.Store self.new.conn) row.now result }
+        ensures counts { HasCleanDisk (state S.Store self.new.conn)
+            → (map : _) → FitsSpace self.old.space map
+            → IsRecordOf (state S.Store self.old.conn) map
+            → OnOk result
+            (IsCount self.new.space.counted (changed_by (sets row.now) map).archives) }
+        ensures kept { HasCleanDisk (state S.Store self.new.conn)
+            → OnErr result
+            (KeepsCommit (state S.Store self.old.conn) (state S.Store self.new.conn)) }
+        ensures crash { CrashesWhole (state S.Store self.old.conn) (state S.Store self.new.conn)
+            self.old.space (sets row.now) }
         ensures safe { HasCleanDisk (state S.Store self.new.conn)
-            → ChangesSafely (state S.Store self.old.conn) (state S.Store self.new.conn)
-            (sets row.now.key (put_params row.now)) result }
+            → ChangesSafely self.old.space (state S.Store self.old.conn)
+            (state S.Store self.new.conn) (sets row.now) result }
         ensures open { HasCleanDisk (state S.Store self.new.conn)
             → AnswersOpen (state S.Store self.old.conn) result }
-        ensures reads_back { OnOk result (IsKept row.now.outputs → ReadsBack row.now) }
+        ensures budget { self.new.space.budget ≡ self.old.space.budget }
+        ensures same { OnErr result (self.new.space ≡ self.old.space) }
+        ensures reads_back { OnOk result (IsKept row.now.outputs
+            → ReadsBack (kept_as self.old.space.budget row.now)) }
         ensures log { Logs Command.Put row.now.key result self.old.log.items self.new.log.items }
+        ensures cause { HasCleanDisk (state S.Store self.new.conn)
+            → IfErr result (Blames S.Store put_texts (begun S.Store self.old.conn)) }
     {
         let noted = room(self.alloc, &mut self.log, row.key.as_str())?;
-        let answer = set(self.alloc, &mut self.conn, row);
+        let answer = self.set(row);
         note(&mut self.log, Command::Put, noted, told_of(&answer));
+        answer
+    }
+
+    #[tactic(auto, using(crate::proofs::Asked::idle_stands, crate::proofs::Asked::idle_keeps, crate::proofs::Asked::idle_whole, crate::proofs::Asked::idle_safe))]
+    fn set(&mut self, row: &Row) -> Result<Items<Text>, RecordFault>
+        ensures map { HasCleanDisk (state S.Store self.new.conn)
+            → (map : _) → FitsSpace self.old.space map
+            → IsRecordOf (state S.Store self.old.conn) map
+            → PutsIn map (state S.Store self.old.conn)
+            (state S.Store self.new.conn) row.now result }
+        ensures counts { HasCleanDisk (state S.Store self.new.conn)
+            → (map : _) → FitsSpace self.old.space map
+            → IsRecordOf (state S.Store self.old.conn) map
+            → OnOk result
+            (IsCount self.new.space.counted (changed_by (sets row.now) map).archives) }
+        ensures kept { HasCleanDisk (state S.Store self.new.conn)
+            → OnErr result
+            (KeepsCommit (state S.Store self.old.conn) (state S.Store self.new.conn)) }
+        ensures crash { CrashesWhole (state S.Store self.old.conn) (state S.Store self.new.conn)
+            self.old.space (sets row.now) }
+        ensures safe { HasCleanDisk (state S.Store self.new.conn)
+            → ChangesSafely self.old.space (state S.Store self.old.conn)
+            (state S.Store self.new.conn) (sets row.now) result }
+        ensures open { HasCleanDisk (state S.Store self.new.conn)
+            → AnswersOpen (state S.Store self.old.conn) result }
+        ensures budget { self.new.space.budget ≡ self.old.space.budget }
+        ensures same { OnErr result (self.new.space ≡ self.old.space) }
+        ensures reads_back { OnOk result (IsKept row.now.outputs
+            → ReadsBack (kept_as self.old.space.budget row.now)) }
+        ensures log { self.new.log ≡ self.old.log }
+        ensures cause { HasCleanDisk (state S.Store self.new.conn)
+            → IfErr result (Blames S.Store put_texts (begun S.Store self.old.conn)) }
+    {
+        let putting = putting_of(self.alloc, row, self.space.budget)?;
+        match changes::put(self.alloc, &mut self.conn, self.space, &putting) {
+            Ok((lost, counted)) => {
+                self.space.counted = counted;
+                Ok(lost)
+            }
+            Err(fault) => Err(fault),
+        }
+    }
+
+    /// Notes that the archive of a key was used.
+    ///
+    /// # Errors
+    ///
+    /// R3 where no archived row has the key; R4; R5 where no number is left; want of memory.
+    #[tactic(auto, using(crate::proofs::Asked::idle_stands, crate::proofs::Asked::idle_keeps, crate::proofs::Asked::idle_whole, crate::proofs::Asked::idle_safe))]
+    pub fn touch(&mut self, key: &str) -> Result<(), RecordFault>
+        ensures map { HasCleanDisk (state S.Store self.new.conn)
+            → (map : _) → FitsSpace self.old.space map
+            → IsRecordOf (state S.Store self.old.conn) map
+            → TouchesIn map (state S.Store self.old.conn) (state S.Store self.new.conn) key.now
+            result }
+        ensures counts { HasCleanDisk (state S.Store self.new.conn)
+            → (map : _) → FitsSpace self.old.space map
+            → IsRecordOf (state S.Store self.old.conn) map
+            → OnOk result
+            (IsCount self.new.space.counted (changed_by (touches key.now) map).archives) }
+        ensures kept { HasCleanDisk (state S.Store self.new.conn)
+            → OnErr result
+            (KeepsCommit (state S.Store self.old.conn) (state S.Store self.new.conn)) }
+        ensures crash { CrashesWhole (state S.Store self.old.conn) (state S.Store self.new.conn)
+            self.old.space (touches key.now) }
+        ensures safe { HasCleanDisk (state S.Store self.new.conn)
+            → ChangesSafely self.old.space (state S.Store self.old.conn)
+            (state S.Store self.new.conn) (touches key.now) result }
+        ensures open { HasCleanDisk (state S.Store self.new.conn)
+            → AnswersOpen (state S.Store self.old.conn) result }
+        ensures budget { self.new.space.budget ≡ self.old.space.budget }
+        ensures same { OnErr result (self.new.space ≡ self.old.space) }
+        ensures log { Logs Command.Touch key.now result self.old.log.items self.new.log.items }
+        ensures cause { HasCleanDisk (state S.Store self.new.conn)
+            → IfErr result (Blames S.Store touch_texts (begun S.Store self.old.conn)) }
+    {
+        let noted = room(self.alloc, &mut self.log, key)?;
+        let answer = changes::touch(&mut self.conn, key);
+        note(&mut self.log, Command::Touch, noted, told_of(&answer));
         answer
     }
 
@@ -167,28 +273,38 @@ impl<S: Alter> JobRecord<S> {
     /// # Errors
     ///
     /// R3 where no row has the key; R4; want of memory.
-    #[tactic(auto, using(crate::proofs::MapSteps::drop_is_map))]
+    #[tactic(auto, using(crate::proofs::Asked::idle_stands, crate::proofs::Asked::idle_keeps, crate::proofs::Asked::idle_whole, crate::proofs::Asked::idle_safe))]
     pub fn drop_archive(&mut self, key: &str) -> Result<(), RecordFault>
-        ensures changes { HasCleanDisk (state S.Store self.new.conn)
-            → Changes S.Store self.old.conn self.new.conn drop_archive_text key.now result }
-        ensures kept { HasCleanDisk (state S.Store self.new.conn)
-            → IfErr result (λ fault. fault ≢ NoRow
-            → KeepsCommit (state S.Store self.old.conn) (state S.Store self.new.conn)) }
         ensures map { HasCleanDisk (state S.Store self.new.conn)
-            → IsRecord (state S.Store self.old.conn)
-            → DropsIn (state S.Store self.old.conn) (state S.Store self.new.conn) key.now result }
-        ensures survives { Survives (state S.Store self.old.conn) (state S.Store self.new.conn)
-            (CommitsBy drop_archive_text (key_params key.now) (state S.Store self.old.conn)) }
+            → (map : _) → FitsSpace self.old.space map
+            → IsRecordOf (state S.Store self.old.conn) map
+            → ChangesIn (unarchives key.now) key.now map (state S.Store self.old.conn)
+            (state S.Store self.new.conn) result }
+        ensures counts { HasCleanDisk (state S.Store self.new.conn)
+            → (map : _) → FitsSpace self.old.space map
+            → IsRecordOf (state S.Store self.old.conn) map
+            → OnOk result
+            (IsCount self.new.space.counted (changed_by (unarchives key.now) map).archives) }
+        ensures kept { HasCleanDisk (state S.Store self.new.conn)
+            → OnErr result
+            (KeepsCommit (state S.Store self.old.conn) (state S.Store self.new.conn)) }
+        ensures crash { CrashesWhole (state S.Store self.old.conn) (state S.Store self.new.conn)
+            self.old.space (unarchives key.now) }
         ensures safe { HasCleanDisk (state S.Store self.new.conn)
-            → ChangesSafely (state S.Store self.old.conn) (state S.Store self.new.conn)
-            (unarchives key.now) result }
+            → ChangesSafely self.old.space (state S.Store self.old.conn)
+            (state S.Store self.new.conn) (unarchives key.now) result }
         ensures open { HasCleanDisk (state S.Store self.new.conn)
             → AnswersOpen (state S.Store self.old.conn) result }
+        ensures budget { self.new.space.budget ≡ self.old.space.budget }
+        ensures same { OnErr result (self.new.space ≡ self.old.space) }
         ensures log { Logs Command.DropArchive key.now result self.old.log.items
             self.new.log.items }
+        ensures cause { HasCleanDisk (state S.Store self.new.conn)
+            → IfErr result (Blames S.Store drop_texts (begun S.Store self.old.conn)) }
     {
         let noted = room(self.alloc, &mut self.log, key)?;
-        let answer = change_of(tables::drop_archive(&mut self.conn, key));
+        let gone = changes::drop_archive(&mut self.conn, key);
+        let answer = without(&mut self.space, gone);
         note(&mut self.log, Command::DropArchive, noted, told_of(&answer));
         answer
     }
@@ -198,25 +314,37 @@ impl<S: Alter> JobRecord<S> {
     /// # Errors
     ///
     /// R3 where no row has the key; R4; want of memory.
-    #[tactic(auto, using(crate::proofs::MapSteps::forget_is_map))]
+    #[tactic(auto, using(crate::proofs::Asked::idle_stands, crate::proofs::Asked::idle_keeps, crate::proofs::Asked::idle_whole, crate::proofs::Asked::idle_safe))]
     pub fn forget(&mut self, key: &str) -> Result<(), RecordFault>
-        ensures changes { HasCleanDisk (state S.Store self.new.conn)
-            → Changes S.Store self.old.conn self.new.conn forget_text key.now result }
-        ensures kept { HasCleanDisk (state S.Store self.new.conn)
-            → IfErr result (λ fault. fault ≢ NoRow
-            → KeepsCommit (state S.Store self.old.conn) (state S.Store self.new.conn)) }
         ensures map { HasCleanDisk (state S.Store self.new.conn)
-            → IsRecord (state S.Store self.old.conn)
-            → ForgetsIn (state S.Store self.old.conn) (state S.Store self.new.conn) key.now result }
-        ensures survives { Survives (state S.Store self.old.conn) (state S.Store self.new.conn)
-            (CommitsBy forget_text (key_params key.now) (state S.Store self.old.conn)) }
+            → (map : _) → FitsSpace self.old.space map
+            → IsRecordOf (state S.Store self.old.conn) map
+            → ChangesIn (forgets key.now) key.now map (state S.Store self.old.conn)
+            (state S.Store self.new.conn) result }
+        ensures counts { HasCleanDisk (state S.Store self.new.conn)
+            → (map : _) → FitsSpace self.old.space map
+            → IsRecordOf (state S.Store self.old.conn) map
+            → OnOk result
+            (IsCount self.new.space.counted (changed_by (forgets key.now) map).archives) }
+        ensures kept { HasCleanDisk (state S.Store self.new.conn)
+            → OnErr result
+            (KeepsCommit (state S.Store self.old.conn) (state S.Store self.new.conn)) }
+        ensures crash { CrashesWhole (state S.Store self.old.conn) (state S.Store self.new.conn)
+            self.old.space (forgets key.now) }
         ensures safe { HasCleanDisk (state S.Store self.new.conn)
-            → ChangesSafely (state S.Store self.old.conn) (state S.Store self.new.conn)
-            (forgets key.now) result }
+            → ChangesSafely self.old.space (state S.Store self.old.conn)
+            (state S.Store self.new.conn) (forgets key.now) result }
+        ensures open { HasCleanDisk (state S.Store self.new.conn)
+            → AnswersOpen (state S.Store self.old.conn) result }
+        ensures budget { self.new.space.budget ≡ self.old.space.budget }
+        ensures same { OnErr result (self.new.space ≡ self.old.space) }
         ensures log { Logs Command.Forget key.now result self.old.log.items self.new.log.items }
+        ensures cause { HasCleanDisk (state S.Store self.new.conn)
+            → IfErr result (Blames S.Store forget_texts (begun S.Store self.old.conn)) }
     {
         let noted = room(self.alloc, &mut self.log, key)?;
-        let answer = change_of(tables::forget(&mut self.conn, key));
+        let gone = changes::forget(&mut self.conn, key);
+        let answer = without(&mut self.space, gone);
         note(&mut self.log, Command::Forget, noted, told_of(&answer));
         answer
     }
@@ -237,6 +365,7 @@ impl<S: Alter> JobRecord<S> {
             (CommitsShowing list_text [] (state S.Store self.old.conn)) }
         ensures safe { HasCleanDisk (state S.Store self.new.conn)
             → ReadsSafely (state S.Store self.old.conn) (state S.Store self.new.conn) }
+        ensures space { self.new.space ≡ self.old.space }
         ensures log { self.new.log ≡ self.old.log }
     {
         read_all(self.alloc, &mut self.conn)
@@ -258,8 +387,31 @@ impl<S: Alter> JobRecord<S> {
             (CommitsShowing list_text [] (state S.Store self.old.conn)) }
         ensures safe { HasCleanDisk (state S.Store self.new.conn)
             → ReadsSafely (state S.Store self.old.conn) (state S.Store self.new.conn) }
+        ensures space { self.new.space ≡ self.old.space }
         ensures log { self.new.log ≡ self.old.log }
     {
         all_keys(self.alloc, &mut self.conn)
     }
+}
+
+// An archive of so many bytes is gone, if there was one.
+fn without(space: &mut Space, gone: Result<Option<u64>, RecordFault>) -> Result<(), RecordFault>
+    ensures answer { result ≡ done_of gone }
+    ensures space { space.new ≡ space_without space.old gone }
+{
+    match gone {
+        Ok(had) => {
+            space.counted = total_without(space.counted, had);
+            Ok(())
+        }
+        Err(fault) => Err(fault),
+    }
+}
+
+// The bytes of all archives, without those of one that went.
+fn total_without(counted: Option<u128>, had: Option<u64>) -> Option<u128>
+    ensures { result ≡ total_without counted had }
+{
+    let total = counted?;
+    Some(total.saturating_sub(u128::from(had.unwrap_or(0))))
 }

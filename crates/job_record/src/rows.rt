@@ -3,12 +3,12 @@
 ghost use Rattle.std.specs.Prelude.{◌≡◌};
 ghost use Rattle.sqlite.specs.State.{HasCleanDisk};
 ghost use Rattle.sqlite.specs.Held.{state};
-ghost use Rattle.job_record.specs.Rows.{HoldsRows, answered};
+ghost use Rattle.job_record.specs.Rows.{HoldsWithin, answered};
 
 use crate::fault::{RecordFault, error_of};
 use crate::record::JobRecord;
 use job_rows::{Record, RecordError, Row};
-use plain_data::Text;
+use plain_data::{Items, Text};
 use sqlite::Alter;
 
 impl<S: Alter> Record for JobRecord<S> {
@@ -16,7 +16,7 @@ impl<S: Alter> Record for JobRecord<S> {
 
     ghost is_sound = { λ kept. HasCleanDisk (state S.Store kept.conn) };
 
-    ghost holds = { λ kept map. HoldsRows (state S.Store kept.conn) map };
+    ghost holds = { λ kept map. HoldsWithin (state S.Store kept.conn) kept.space map };
 
     #[tactic(auto, using(crate::proofs::KeptRows::logs_answered))]
     fn find(&mut self, key: &Text) -> Result<Option<Row>, RecordError> {
@@ -24,8 +24,13 @@ impl<S: Alter> Record for JobRecord<S> {
     }
 
     #[tactic(auto, using(crate::proofs::KeptRows::logs_answered))]
-    fn put(&mut self, row: &Row) -> Result<(), RecordError> {
+    fn put(&mut self, row: &Row) -> Result<Items<Text>, RecordError> {
         answered(JobRecord::put(self, row))
+    }
+
+    #[tactic(auto, using(crate::proofs::KeptRows::logs_answered))]
+    fn touch(&mut self, key: &Text) -> Result<(), RecordError> {
+        answered(JobRecord::touch(self, key.as_str()))
     }
 
     #[tactic(auto, using(crate::proofs::KeptRows::logs_answered))]

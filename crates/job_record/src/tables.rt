@@ -1,32 +1,29 @@
 //! The statements of the record. Each function here runs one statement of `sqlite`, which keeps a plan for each text.
 
-ghost use Rattle.std.specs.Prelude.{◌≡◌, ◌≢◌, ◌<◌, ◌-◌, ◌^◌, ℕ, ℤ, pos, min, not, length, [], IfOk, IfErr, MatchOption};
+ghost use Rattle.std.specs.Prelude.{◌≡◌, ◌≢◌, ◌<◌, ◌-◌, ◌^◌, ℕ, ℤ, pos, min, not, length, [], IfOk, IfErr, IsTrue, MatchOption, false};
 ghost use Rattle.std.specs.Ordering.{int_eq};
 ghost use Rattle.sqlite.specs.Order.{column};
 ghost use Rattle.sqlite.specs.declared.types.Value.TheVariants.{Int};
 ghost use Rattle.sqlite.specs.declared.error.Error.TheVariants.{QueryReturnedNoRows};
-ghost use Rattle.sqlite.specs.State.{HasCleanDisk, Survives, Executes, QueriesRow, Shown, FailsToQuery, CommitsBy, CommitsShowing};
+ghost use Rattle.sqlite.specs.State.{HasCleanDisk, Survives, QueriesRow, Shown, FailsToQuery, CommitsShowing};
 ghost use Rattle.sqlite.specs.Held.{state};
 ghost use Rattle.sqlite.specs.Values.{bound};
+ghost use Rattle.sqlite_rules.specs.Lists.{Has};
 ghost use Rattle.job_record.specs.Statements.{version_text, find_text, list_text, put_text, drop_archive_text, forget_text, key_params};
 ghost use Rattle.job_record.specs.Texts.{AreUtf8};
-ghost use Rattle.job_record.specs.Columns.{columns_of, IsText, AreColumnsOf, HasNoKey, Misreads, misread_as};
-ghost use Rattle.job_record.specs.inner.Crash.{RunsOpen, ChangesOpen};
+ghost use Rattle.job_record.specs.Columns.{IsText, AreColumnsOf, HasNoKey, Misreads, misread_as};
+ghost use Rattle.job_record.specs.Blame.{MeetsNone};
+ghost use Rattle.job_record.specs.inner.Crash.{RunsOpen};
+ghost use Rattle.job_record.specs.inner.Inside.{Always, Makes, Meets, Never, Steps, Traces, with_row, without_flag, without_row};
 
 use crate::fault::RecordFault;
+use crate::inside;
 use crate::texts::Stored;
 use plain_data::Text;
 use sqlite::types::ValueRef;
-use sqlite::{Alter, Connection, Error, ErrorCode, Row as Columns, params};
+use sqlite::{Alter, Connection, Error, ErrorCode, Row as Columns, Transaction, params};
 
 const FIND: &str = "SELECT key, outputs, files, cost, archived FROM job WHERE key = ?1";
-
-const PUT: &str =
-    "INSERT INTO job (key, outputs, files, cost, archived) VALUES (?1, ?2, ?3, ?4, ?5) ON CONFLICT (key) DO UPDATE SET outputs = excluded.outputs, files = excluded.files, cost = excluded.cost, archived = excluded.archived";
-
-const DROP_ARCHIVE: &str = "UPDATE job SET archived = 0 WHERE key = ?1";
-
-const FORGET: &str = "DELETE FROM job WHERE key = ?1";
 
 pub const LIST: &str = "SELECT key, outputs, files, cost, archived FROM job ORDER BY key";
 
@@ -44,6 +41,7 @@ pub fn version<S: Alter>(conn: &mut Connection<S>) -> Result<Option<Columns>, Er
         × QueriesRow version_text [] (state S.Store conn.old) (state S.Store conn.new) (Err e)) }
     ensures survives { Survives (state S.Store conn.old) (state S.Store conn.new)
         (CommitsShowing version_text [] (state S.Store conn.old)) }
+    ensures mode { conn.old.in_transaction ≡ false → conn.new.in_transaction ≡ false }
 {
     match conn.query_row(VERSION_TEXT, &[]) {
         Ok(columns) => Ok(Some(columns)),
@@ -67,6 +65,7 @@ pub fn find<S: Alter>(conn: &mut Connection<S>, key: &str) -> Result<Option<Colu
         (CommitsShowing find_text (key_params key.now) (state S.Store conn.old)) }
     ensures open { HasCleanDisk (state S.Store conn.new)
         → RunsOpen (state S.Store conn.old) (state S.Store conn.new) }
+    ensures mode { conn.old.in_transaction ≡ false → conn.new.in_transaction ≡ false }
 {
     match first_row(conn, FIND, params![key]) {
         Ok(columns) => Ok(Some(columns)),
@@ -76,61 +75,84 @@ pub fn find<S: Alter>(conn: &mut Connection<S>, key: &str) -> Result<Option<Colu
 }
 
 /// Sets the row of a key.
-pub fn put<S: Alter>(conn: &mut Connection<S>, row: &Stored) -> Result<usize, Error>
-    ensures runs { HasCleanDisk (state S.Store conn.new)
-        → Executes put_text (columns_of row.now) (state S.Store conn.old) (state S.Store conn.new)
-        result }
-    ensures survives { Survives (state S.Store conn.old) (state S.Store conn.new)
-        (CommitsBy put_text (columns_of row.now) (state S.Store conn.old)) }
-    ensures open { HasCleanDisk (state S.Store conn.new)
-        → ChangesOpen (state S.Store conn.old) (state S.Store conn.new) result }
+pub fn put<S: Alter>(change: &mut Transaction<'_, S>, row: &Stored) -> Result<(), RecordFault>
+    ensures same_reference { change.new.conn.ghost_name ≡ change.old.conn.ghost_name }
+    ensures step { HasCleanDisk (state S.Store change.new.conn.now)
+        → IsTrue (state S.Store change.old.conn.now).in_transaction
+        → Makes (state S.Store change.old.conn.now) (state S.Store change.new.conn.now)
+        (with_row row.now) result }
+    ensures survives { Survives (state S.Store change.old.conn.now)
+        (state S.Store change.new.conn.now) (λ _. ⊥) }
     ensures utf8 { AreUtf8 row.now }
+    ensures cause { (texts : _) → Has texts put_text
+        → HasCleanDisk (state S.Store change.new.conn.now)
+        → IsTrue (state S.Store change.old.conn.now).in_transaction
+        → Traces S.Store texts change.old.conn.now change.new.conn.now result }
 {
-    let cost = held_cost(row.cost);
-    run(
-        conn,
-        PUT,
-        params![
-            row.key.as_str(),
-            row.outputs.as_str(),
-            row.files.as_str(),
-            cost,
-            row.archived
-        ],
-    )
+    match inside::put(change, row) {
+        Ok(_) => Ok(()),
+        Err(error) => Err(RecordFault::Store(error)),
+    }
 }
 
-// The table's own limit refuses what is past 10^12.
-fn held_cost(cost: u64) -> i64
-    ensures { result ≡ pos (min cost (2 ^ 63 - 1)) }
+/// A number as the store has it. The table's own limit refuses a cost that is past 10^12.
+pub fn held(number: u64) -> i64
+    ensures { result ≡ pos (min number (2 ^ 63 - 1)) }
 {
-    i64::try_from(cost).unwrap_or(i64::MAX)
+    i64::try_from(number).unwrap_or(i64::MAX)
 }
 
-/// Notes that the archive of a key is gone, and answers how many rows that met.
-pub fn drop_archive<S: Alter>(conn: &mut Connection<S>, key: &str) -> Result<usize, Error>
-    ensures runs { HasCleanDisk (state S.Store conn.new)
-        → Executes drop_archive_text (key_params key.now) (state S.Store conn.old)
-        (state S.Store conn.new) result }
-    ensures survives { Survives (state S.Store conn.old) (state S.Store conn.new)
-        (CommitsBy drop_archive_text (key_params key.now) (state S.Store conn.old)) }
-    ensures open { HasCleanDisk (state S.Store conn.new)
-        → ChangesOpen (state S.Store conn.old) (state S.Store conn.new) result }
+/// Notes in the row of a key that its archive is gone, and answers whether there is one.
+pub fn drop_archive<S: Alter>(
+    change: &mut Transaction<'_, S>,
+    key: &str,
+) -> Result<bool, RecordFault>
+    ensures same_reference { change.new.conn.ghost_name ≡ change.old.conn.ghost_name }
+    ensures step { HasCleanDisk (state S.Store change.new.conn.now)
+        → IsTrue (state S.Store change.old.conn.now).in_transaction
+        → Steps (state S.Store change.old.conn.now) (state S.Store change.new.conn.now) Always
+        (Meets key.now (without_flag key.now)) Never result }
+    ensures survives { Survives (state S.Store change.old.conn.now)
+        (state S.Store change.new.conn.now) (λ _. ⊥) }
+    ensures cause { (texts : _) → Has texts drop_archive_text
+        → HasCleanDisk (state S.Store change.new.conn.now)
+        → IsTrue (state S.Store change.old.conn.now).in_transaction
+        → Traces S.Store texts change.old.conn.now change.new.conn.now result }
+    ensures none { (texts : _) → Has texts drop_archive_text
+        → HasCleanDisk (state S.Store change.new.conn.now)
+        → IsTrue (state S.Store change.old.conn.now).in_transaction
+        → IfOk result
+        (λ met. met ≡ false → MeetsNone S.Store texts change.old.conn.now) }
 {
-    run(conn, DROP_ARCHIVE, params![key])
+    match inside::drop_archive(change, key) {
+        Ok(met) => Ok(met > 0),
+        Err(error) => Err(RecordFault::Store(error)),
+    }
 }
 
-/// Takes the row of a key out, and answers how many rows that met.
-pub fn forget<S: Alter>(conn: &mut Connection<S>, key: &str) -> Result<usize, Error>
-    ensures runs { HasCleanDisk (state S.Store conn.new)
-        → Executes forget_text (key_params key.now) (state S.Store conn.old)
-        (state S.Store conn.new) result }
-    ensures survives { Survives (state S.Store conn.old) (state S.Store conn.new)
-        (CommitsBy forget_text (key_params key.now) (state S.Store conn.old)) }
-    ensures open { HasCleanDisk (state S.Store conn.new)
-        → ChangesOpen (state S.Store conn.old) (state S.Store conn.new) result }
+/// Takes the row of a key out, and answers whether there was one.
+pub fn forget<S: Alter>(change: &mut Transaction<'_, S>, key: &str) -> Result<bool, RecordFault>
+    ensures same_reference { change.new.conn.ghost_name ≡ change.old.conn.ghost_name }
+    ensures step { HasCleanDisk (state S.Store change.new.conn.now)
+        → IsTrue (state S.Store change.old.conn.now).in_transaction
+        → Steps (state S.Store change.old.conn.now) (state S.Store change.new.conn.now) Always
+        (Meets key.now (without_row key.now)) Never result }
+    ensures survives { Survives (state S.Store change.old.conn.now)
+        (state S.Store change.new.conn.now) (λ _. ⊥) }
+    ensures cause { (texts : _) → Has texts forget_text
+        → HasCleanDisk (state S.Store change.new.conn.now)
+        → IsTrue (state S.Store change.old.conn.now).in_transaction
+        → Traces S.Store texts change.old.conn.now change.new.conn.now result }
+    ensures none { (texts : _) → Has texts forget_text
+        → HasCleanDisk (state S.Store change.new.conn.now)
+        → IsTrue (state S.Store change.old.conn.now).in_transaction
+        → IfOk result
+        (λ met. met ≡ false → MeetsNone S.Store texts change.old.conn.now) }
 {
-    run(conn, FORGET, params![key])
+    match inside::forget(change, key) {
+        Ok(met) => Ok(met > 0),
+        Err(error) => Err(RecordFault::Store(error)),
+    }
 }
 
 /// The columns of all rows, by key.
@@ -145,28 +167,12 @@ pub fn list<S: Alter>(conn: &mut Connection<S>) -> Result<Vec<Columns>, Error>
         (CommitsShowing list_text [] (state S.Store conn.old)) }
     ensures open { HasCleanDisk (state S.Store conn.new)
         → RunsOpen (state S.Store conn.old) (state S.Store conn.new) }
+    ensures mode { conn.old.in_transaction ≡ false → conn.new.in_transaction ≡ false }
 {
     all_rows(conn, LIST, &[])
 }
 
 // A statement says what it does only of an open connection, and `prepare` refuses one that a failure has shut.
-fn run<S: Alter>(
-    conn: &mut Connection<S>,
-    text: &str,
-    params: &[ValueRef<'_>],
-) -> Result<usize, Error>
-    ensures runs { HasCleanDisk (state S.Store conn.new)
-        → Executes text.now (bound params.now) (state S.Store conn.old) (state S.Store conn.new)
-        result }
-    ensures survives { Survives (state S.Store conn.old) (state S.Store conn.new)
-        (CommitsBy text.now (bound params.now) (state S.Store conn.old)) }
-    ensures open { HasCleanDisk (state S.Store conn.new)
-        → ChangesOpen (state S.Store conn.old) (state S.Store conn.new) result }
-{
-    let statement = conn.prepare(text)?;
-    statement.execute(conn, params)
-}
-
 // The first row of a query, on an open connection.
 fn first_row<S: Alter>(
     conn: &mut Connection<S>,
@@ -180,6 +186,7 @@ fn first_row<S: Alter>(
         (CommitsShowing text.now (bound params.now) (state S.Store conn.old)) }
     ensures open { HasCleanDisk (state S.Store conn.new)
         → RunsOpen (state S.Store conn.old) (state S.Store conn.new) }
+    ensures mode { conn.old.in_transaction ≡ false → conn.new.in_transaction ≡ false }
 {
     let statement = conn.prepare(text)?;
     statement.query_row(conn, params)
@@ -201,6 +208,7 @@ fn all_rows<S: Alter>(
         (CommitsShowing text.now (bound params.now) (state S.Store conn.old)) }
     ensures open { HasCleanDisk (state S.Store conn.new)
         → RunsOpen (state S.Store conn.old) (state S.Store conn.new) }
+    ensures mode { conn.old.in_transaction ≡ false → conn.new.in_transaction ≡ false }
 {
     let statement = conn.prepare(text)?;
     statement.query_all(conn, params)
@@ -228,7 +236,8 @@ pub fn key_in(columns: &Columns) -> Result<Text, RecordFault>
     text_at(columns, 0)
 }
 
-fn text_at(columns: &Columns, at: usize) -> Result<Text, RecordFault>
+/// The text in a column.
+pub fn text_at(columns: &Columns, at: usize) -> Result<Text, RecordFault>
     ensures ok { IfOk result (λ text. (at < length columns.now)
         × IsText (column columns.now at) text) }
     ensures err { IfErr result (Misreads (at < length columns.now → (text : _)
@@ -240,7 +249,8 @@ fn text_at(columns: &Columns, at: usize) -> Result<Text, RecordFault>
     }
 }
 
-fn natural_at(columns: &Columns, at: usize) -> Result<u64, RecordFault>
+/// The natural number in a column.
+pub fn natural_at(columns: &Columns, at: usize) -> Result<u64, RecordFault>
     ensures ok { IfOk result (λ n. (at < length columns.now)
         × (column columns.now at ≡ Int (pos n))) }
     ensures err { IfErr result (Misreads (at < length columns.now → (n : ℕ) → column columns.now at

@@ -1,15 +1,17 @@
 //! The texts in which a row is kept.
 
-ghost use Rattle.std.specs.Prelude.{◌≡◌, Some, None, Ok, IfOk, IfErr, option_map};
+ghost use Rattle.std.specs.Prelude.{◌≡◌, Some, None, Ok, IfOk, IfErr, IsUtf8, option_map};
 ghost use Rattle.serde_json.specs.View.{view, items_view};
 ghost use Rattle.serde_json.specs.Written.{compact_text};
 ghost use Rattle.cwl_value.specs.Json.{json_of};
 ghost use Rattle.cwl_value.specs.Texts.{ReadsAs};
 ghost use Rattle.cwl_value.specs.declared.value.Value.{Fields};
-ghost use Rattle.job_record.specs.Texts.{found_json, files_json, found_in, list_in, text_at, flag_at, number_at, ReadsAsFiles, texts_of, ReadsAsRow};
+ghost use Rattle.job_record.specs.Texts.{found_json, files_json, found_in, list_in, text_at, flag_at, number_at, ReadsAsFiles, texts_of, ReadsAsRow, AreUtf8};
 ghost use Rattle.job_rows.specs.Storable.{IsKept};
+ghost use Rattle.job_record.specs.OpenMap.{bytes_in};
 ghost use Rattle.job_record.specs.Columns.{Misreads};
 
+use crate::changes::GREATEST_NUMBER;
 use crate::fault::RecordFault;
 use cwl_value::{Value, ValueRefusal, copy_fields, read_value, to_json};
 use job_rows::Row;
@@ -29,18 +31,40 @@ pub struct Stored {
     pub archived: bool,
 }
 
-/// The row's texts.
-pub fn stored_of(alloc: Global, row: &Row) -> Result<Stored, AllocError>
-    ensures texts { IfOk result (λ s. s ≡ texts_of row.now) }
-    ensures reads { IfOk result (λ s. IsKept row.now.outputs → ReadsAsRow s row.now) }
+/// The row's texts, with the flag that says whether it keeps an archive.
+pub fn stored_of(alloc: Global, row: &Row, archived: bool) -> Result<Stored, AllocError>
+    ensures texts { IfOk result (λ s. s ≡ texts_of (record row.now { archived = archived })) }
+    ensures reads { IfOk result (λ s. IsKept row.now.outputs
+        → ReadsAsRow s (record row.now { archived = archived })) }
+    ensures utf8 { IfOk result AreUtf8 }
 {
     Ok(Stored {
-        key: row.key.copied(alloc)?,
+        key: Text::from_text(alloc, row.key.as_str())?,
         outputs: outputs_text(alloc, &row.outputs)?,
         files: files_text(alloc, &row.files)?,
         cost: row.cost,
-        archived: row.archived,
+        archived,
     })
+}
+
+/// The bytes of the files that the text lists, held to the greatest number that the store has. R1 where it does not read.
+pub fn bytes_in(alloc: Global, text: &Text) -> Result<u64, RecordFault>
+    ensures ok { IfOk result (λ bytes. (files : _) × ReadsAsFiles text.now files
+        × (bytes ≡ bytes_in files)) }
+    ensures err { IfErr result (Misreads ((files : _) → ¬ ReadsAsFiles text.now files)) }
+{
+    let files = read_files(alloc, text)?;
+    Ok(bytes_of(&files))
+}
+
+fn bytes_of(files: &Items<Found>) -> u64
+    ensures { result ≡ bytes_in files.now }
+{
+    let mut bytes: u64 = 0;
+    for file in files.as_slice() {
+        bytes = bytes.saturating_add(file.size);
+    }
+    bytes.min(GREATEST_NUMBER)
 }
 
 /// The row that the texts stand for.
@@ -65,6 +89,7 @@ pub fn row_of(alloc: Global, stored: Stored) -> Result<Row, RecordFault>
 #[tactic(auto, using(cwl_value::proofs::NoFloat::exact))]
 fn outputs_text(alloc: Global, outputs: &Keyed<Value>) -> Result<Text, AllocError>
     ensures text { IfOk result (λ text. text ≡ compact_text (json_of (Fields outputs.now))) }
+    ensures utf8 { IfOk result IsUtf8 }
     ensures reads { IfOk result (λ text. IsKept outputs.now
         → ReadsAs text (Ok (Fields outputs.now))) }
 {
@@ -95,6 +120,7 @@ fn read_outputs(alloc: Global, text: &Text) -> Result<Keyed<Value>, RecordFault>
 #[tactic(auto, using(crate::proofs::Files::exact, crate::proofs::WrittenRow::files_read, crate::proofs::WrittenRow::files_depth))]
 fn files_text(alloc: Global, files: &Items<Found>) -> Result<Text, AllocError>
     ensures text { IfOk result (λ text. text ≡ compact_text (files_json files.now)) }
+    ensures utf8 { IfOk result IsUtf8 }
     ensures reads { IfOk result (λ text. ReadsAsFiles text files.now) }
 {
     Ok(Text::from_string(json_of_files(alloc, files)?.to_string(alloc)?))

@@ -3,7 +3,7 @@ use Rattle.std.proofs.lemmas.Result.{err_from_is_err_and, IfOk-weaker, IfErr-wea
 use Rattle.sqlite.specs.Values.{bound}
 use Rattle.sqlite.specs.State.{Shown, FailsToQuery}
 use Rattle.sqlite.specs.Held.{state}
-use Rattle.job_record.proofs.Opens.{was_clean}
+use Rattle.job_record.proofs.Chain.{was_clean}
 use Rattle.job_record.proofs.After.{shows_from, failed_from}
 use Rattle.job_record.proofs.Looked.{refused_fails, refused_idle, looked_shows}
 use Rattle.job_record.proofs.tables.all_rows.Goals as goal

@@ -3,7 +3,7 @@ use Rattle.std.proofs.lemmas.Result.{err_from_is_err_and}
 use Rattle.sqlite.specs.Values.{bound}
 use Rattle.sqlite.specs.State.{QueriesRow}
 use Rattle.sqlite.specs.Held.{state}
-use Rattle.job_record.proofs.Opens.{was_clean}
+use Rattle.job_record.proofs.Chain.{was_clean}
 use Rattle.job_record.proofs.After.{queries_from}
 use Rattle.job_record.proofs.Looked.{refused_queries, refused_idle, looked_shows}
 use Rattle.job_record.proofs.tables.first_row.Goals as goal

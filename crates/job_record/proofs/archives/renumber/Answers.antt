@@ -1,0 +1,16 @@
+use Rattle.sqlite.specs.Held.{state}
+use Rattle.job_record.proofs.Stepping.{use_step}
+use Rattle.job_record.proofs.Traced.{executed, not_executed}
+use Rattle.job_record.specs.Archives.{use_text, use_params}
+use Rattle.job_record.proofs.archives.renumber.Goals as goal
+
+pub returns-in-Ok-clause-step : goal.returns-in-Ok-clause-step
+returns-in-Ok-clause-step g c clean going = use_step c.args.key.now c.args.used (state g.S.Store c.args.change.now.conn.now) (state g.S.Store c.renumber.new.change.conn.now) c.in-Ok.field-0 (c.in-Ok.ensures.runs clean going)
+
+pub returns-in-Ok-clause-cause : goal.returns-in-Ok-clause-cause
+returns-in-Ok-clause-cause g c texts has clean going =
+    executed g.S.Store texts use_text has (use_params c.args.key.now c.args.used) c.args.change.now.conn.now c.renumber.new.change.conn.now c.in-Ok.field-0 (c.in-Ok.ensures.runs clean going)
+
+pub returns-in-Err-clause-cause : goal.returns-in-Err-clause-cause
+returns-in-Err-clause-cause g c texts has clean going =
+    not_executed g.S.Store texts use_text has (use_params c.args.key.now c.args.used) c.args.change.now.conn.now c.renumber.new.change.conn.now c.in-Err.error (c.in-Err.ensures.runs clean going)

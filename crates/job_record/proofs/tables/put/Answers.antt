@@ -1,0 +1,17 @@
+use Rattle.sqlite.specs.Held.{state}
+use Rattle.job_record.proofs.Stepping.{put_step}
+use Rattle.job_record.proofs.Traced.{executed, not_executed}
+use Rattle.job_record.specs.Statements.{put_text}
+use Rattle.job_record.specs.Columns.{columns_of}
+use Rattle.job_record.proofs.tables.put.Goals as goal
+
+pub returns-in-Ok-clause-step : goal.returns-in-Ok-clause-step
+returns-in-Ok-clause-step g c clean going = put_step c.args.row.now (state g.S.Store c.args.change.now.conn.now) (state g.S.Store c.put.new.change.conn.now) c.in-Ok.field-0 (c.in-Ok.ensures.runs clean going)
+
+pub returns-in-Ok-clause-cause : goal.returns-in-Ok-clause-cause
+returns-in-Ok-clause-cause g c texts has clean going =
+    executed g.S.Store texts put_text has (columns_of c.args.row.now) c.args.change.now.conn.now c.put.new.change.conn.now c.in-Ok.field-0 (c.in-Ok.ensures.runs clean going)
+
+pub returns-in-Err-clause-cause : goal.returns-in-Err-clause-cause
+returns-in-Err-clause-cause g c texts has clean going =
+    not_executed g.S.Store texts put_text has (columns_of c.args.row.now) c.args.change.now.conn.now c.put.new.change.conn.now c.in-Err.error (c.in-Err.ensures.runs clean going)
