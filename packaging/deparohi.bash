@@ -27,7 +27,7 @@ _deparohi() {
         COMPREPLY=($(compgen -v -- "$word"))
         return
         ;;
-    --retries | --base | --rate | --forget | --cores | --ram)
+    --retries | --budget | --base | --rate | --forget | --cores | --ram)
         COMPREPLY=()
         return
         ;;
@@ -37,8 +37,8 @@ _deparohi() {
         return
     fi
     case $command in
-    run) every="--work --outdir --slots --parallel --retries --record --archive --cache --base --rate --prefer-kept --verbose --progress --progress-json --keep --keep-failed --validate --template --print-command $import $every" ;;
-    plan) every="--dot --work --outdir --slots --parallel --retries --record --archive --cache --base --rate --prefer-kept $import $every" ;;
+    run) every="--work --outdir --slots --parallel --retries --record --archive --cache --budget --base --rate --prefer-kept --verbose --progress --progress-json --keep --keep-failed --validate --template --print-command $import $every" ;;
+    plan) every="--dot --work --outdir --slots --parallel --retries --record --archive --cache --budget --base --rate --prefer-kept $import $every" ;;
     record) every="--forget $every" ;;
     help) every="" ;;
     esac

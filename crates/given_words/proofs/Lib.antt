@@ -1,3 +1,4 @@
+pub mod Cuts
 pub mod Listed
 pub mod Lists
 pub mod OtherWords

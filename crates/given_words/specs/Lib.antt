@@ -1,3 +1,4 @@
+pub mod Budget
 pub mod Others
 pub mod Preference
 pub mod Processors

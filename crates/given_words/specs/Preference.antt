@@ -1,6 +1,6 @@
 -- What asks for what is kept in the place of computing it again: `--prefer-kept`, of the commands `run` and `plan`, up to a word `--`. It
 -- stands for the cheapest loads.
-use Rattle.std.specs.Prelude.{ℕ, Bool, ◌&&◌, List, [], ◌∷◌, ◌++◌, fold, codes, bytes_eq, if◌then◌else◌}
+use Rattle.std.specs.Prelude.{ℕ, ◌&&◌, List, [], ◌∷◌, ◌++◌, fold, codes, bytes_eq, if◌then◌else◌}
 use Rattle.given_words.specs.Slots.{has_options}
 
 abbrev pub cheapest : List (List ℕ)

@@ -15,15 +15,15 @@ has_options words = takes_slots words && not (list_any (λ word. bytes_eq word (
 abbrev pub asks_for_all : List ℕ → Bool
 asks_for_all word = bytes_eq word (codes "--parallel") || bytes_eq word (codes "--slots=all")
 
--- the words end with `--slots`
-abbrev pub wants_number : List (List ℕ) → Bool
-wants_number words = bytes_eq (slice_index_or words (length words - 1) []) (codes "--slots")
+-- the last word; none is the empty one
+abbrev pub last_of : List (List ℕ) → List ℕ
+last_of words = slice_index_or words (length words - 1) []
 
 -- an option that follows these words, for so many processors
 abbrev pub slot_word : (count : ℕ) (before : List (List ℕ)) → List ℕ → List ℕ
 slot_word count before word =
     if asks_for_all word then codes "--slots=" ++ decimal count
-    else if wants_number before && bytes_eq word (codes "all") then decimal count
+    else if bytes_eq (last_of before) (codes "--slots") && bytes_eq word (codes "all") then decimal count
     else word
 
 -- the words with one more

@@ -90,7 +90,8 @@ fn is_between(first: Option<u64>, last: Option<u64>, number: u64) -> bool
     }
 }
 
-fn number_in(text: &str) -> Option<u64>
+/// The number that digits write, if it is below 2^64.
+pub(crate) fn number_in(text: &str) -> Option<u64>
     ensures { result ≡ spec.number_in text.now }
 {
     match text.parse::<u64>() {

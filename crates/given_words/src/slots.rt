@@ -38,7 +38,7 @@ fn slot_word(alloc: Global, before: &[String], word: &str, count: u64) -> Result
     if matches!(word, "--parallel" | "--slots=all") {
         return format!(in alloc; "--slots={count}");
     }
-    if wants_number(before) && word == "all" {
+    if last_of(before) == "--slots" && word == "all" {
         return format!(in alloc; "{count}");
     }
     String::from_str(alloc, word)
@@ -73,11 +73,12 @@ fn has_word(words: &[String], word: &str) -> bool
     words.iter().any(|other| other.as_str() == word)
 }
 
-fn wants_number(words: &[String]) -> bool
-    ensures { result ≡ spec.wants_number (map string_bytes words.now) }
+/// The last word; none is the empty one.
+pub(crate) fn last_of(words: &[String]) -> &str
+    ensures { result.now ≡ spec.last_of (map string_bytes words.now) }
 {
     match words.last() {
-        None => false,
-        Some(word) => word.as_str() == "--slots",
+        None => "",
+        Some(word) => word.as_str(),
     }
 }

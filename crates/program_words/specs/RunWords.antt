@@ -23,8 +23,8 @@ named_rule id = record (new_rule id) { long = Some id; action = Some Set; value_
 abbrev pub numbered_rule : Text → ℕ → ℕ → Rule
 numbered_rule id least most = record (named_rule id) { parser = Some (Unsigned least most) }
 
--- the options of each run, and of each plan of one: its folders, how many jobs run side by side and how often one is started again, what is kept, and
--- what a load costs
+-- the options of each run, and of each plan of one: its folders, how many jobs run side by side and how often one is started again, what is kept and
+-- how many bytes of it, and what a load costs
 abbrev pub folder_rules : List Rule
 folder_rules = named_rule (codes "work") ∷ (named_rule (codes "outdir") ∷ [])
 
@@ -32,7 +32,7 @@ abbrev pub number_rules : List Rule
 number_rules = numbered_rule (codes "slots") 1 64 ∷ (numbered_rule (codes "retries") 0 10 ∷ [])
 
 abbrev pub store_rules : List Rule
-store_rules = named_rule (codes "record") ∷ (named_rule (codes "archive") ∷ (named_rule (codes "cache") ∷ []))
+store_rules = named_rule (codes "record") ∷ (named_rule (codes "archive") ∷ (named_rule (codes "cache") ∷ (numbered_rule (codes "budget") 0 9223372036854775807 ∷ [])))
 
 abbrev pub cost_rules : List Rule
 cost_rules = numbered_rule (codes "base") 0 1000000000000 ∷ (numbered_rule (codes "rate") 1 1000000000000 ∷ [])
@@ -69,8 +69,8 @@ telling_in rows =
     else Nothing
 
 -- the document, the input object's file where one is named, the two folders, the texts of the two numbers that are given, the record's file, the
--- archive's folder and a cache's where they are named, the texts of what a load costs that are given, whether the work folder is to stay, and whether
--- it is to stay after a failure, how to tell of the jobs, what to show, and whether to say in words what went wrong
+-- archive's folder and a cache's where they are named, the texts of how many bytes are kept and of what a load costs where they are given, whether the
+-- work folder is to stay, and whether it is to stay after a failure, how to tell of the jobs, what to show, and whether to say in words what went wrong
 pub record RunWish : Type 0 where
   pub document : Text
   pub inputs : Option Text
@@ -81,6 +81,7 @@ pub record RunWish : Type 0 where
   pub record_file : Option Text
   pub archive : Option Text
   pub cache : Option Text
+  pub budget : Option Text
   pub base : Option Text
   pub rate : Option Text
   pub keep : Bool
@@ -101,6 +102,7 @@ run_wish rows = record {
   record_file = first_of (codes "record") rows;
   archive = first_of (codes "archive") rows;
   cache = first_of (codes "cache") rows;
+  budget = first_of (codes "budget") rows;
   base = first_of (codes "base") rows;
   rate = first_of (codes "rate") rows;
   keep = is_given (codes "keep") rows;
@@ -121,6 +123,7 @@ wish_of_run words = record {
   record_file = option_map (λ s. s.now) words.record_file;
   archive = option_map (λ s. s.now) words.archive;
   cache = option_map (λ s. s.now) words.cache;
+  budget = option_map (λ s. s.now) words.budget;
   base = option_map (λ s. s.now) words.base;
   rate = option_map (λ s. s.now) words.rate;
   keep = words.keep;
@@ -147,3 +150,8 @@ pub data IsChosen (least most other : ℕ) : Option Text → ℕ → Type 0 wher
   absent : IsChosen least most other None other
   -- or none that is such a decimal, which `clap` refuses
   unread : (text : Text) → ((number : ℕ) → IsDecimal least most text number → ⊥) → IsChosen least most other (Some text) other
+
+-- how many bytes are kept at most, where an option says so
+pub data IsBudget : Option Text → Option ℕ → Type 0 where
+  unlimited : IsBudget None None
+  limited : (text : Text) (number : ℕ) → IsChosen 0 9223372036854775807 9223372036854775807 (Some text) number → IsBudget (Some text) (Some number)

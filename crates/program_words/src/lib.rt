@@ -35,7 +35,7 @@ pub use planning::PlanWords;
 pub use progress::{Counts, Longest};
 pub use record_words::RecordWords;
 pub use reuse::{Recalled, Why, reason_for};
-pub use run_words::{RunWords, load_base_of, load_rate_of, retries_of, slots_of};
+pub use run_words::{RunWords, budget_of, load_base_of, load_rate_of, retries_of, slots_of};
 pub use savings::{Savings, savings_line};
 pub use shell_words::{add_word, line_of};
 pub use shown::{cut, visible, visible_text};

@@ -2,7 +2,7 @@ ghost use Rattle.std.specs.Prelude.{◌≡◌, ◌≤◌, ◌^◌, ◌++◌, IfO
 ghost use Rattle.std.specs.List.{fold};
 ghost use Rattle.clap.specs.Words.{app_of, found_of, kind_of, new_app, rows_of, rule_of, with_rule};
 ghost use Rattle.program_words.specs.Flags.{IsLocal};
-ghost use Rattle.program_words.specs.RunWords.{IsChosen, folder_rules, input_rules, keeping_rules, named_rule, number_rules, numbered_rule, placed_rule, run_command, run_rules, run_wish, shared_rules, store_rules, telling_in, telling_rules, wish_of_run};
+ghost use Rattle.program_words.specs.RunWords.{IsBudget, IsChosen, folder_rules, input_rules, keeping_rules, named_rule, number_rules, numbered_rule, placed_rule, run_command, run_rules, run_wish, shared_rules, store_rules, telling_in, telling_rules, wish_of_run};
 
 use crate::flags::{RUN_END, is_given, is_wanted, with_flag, with_flags};
 use crate::shows::{Shows, shows_of};
@@ -22,6 +22,9 @@ const MOST_RETRIES: u64 = 10;
 const USUAL_BASE: u64 = 1;
 
 const LEAST_RATE: u64 = 1;
+
+/// The most bytes of a budget: what a record counts to.
+const MOST_BUDGET: u64 = 9_223_372_036_854_775_807;
 
 const USUAL_RATE: u64 = 100_000;
 
@@ -43,6 +46,9 @@ const ARCHIVE_HELP: &str =
 
 const CACHE_HELP: &str =
     "The folder of a record and an archive, made if it is absent: `--record DIR/jobs.db --archive DIR/files`";
+
+const BUDGET_HELP: &str =
+    "How many bytes of files the archive has at most, also as 50G: k, M, G and T are powers of 1,000; what was used longest ago goes first";
 
 const BASE_HELP: &str =
     "What it costs to load the files of any job, from 0 to 10^12 [1]; by `--prefer-kept` this is 0 and the rate 10^12, so that what is kept is loaded";
@@ -91,6 +97,8 @@ pub struct RunWords<'a> {
     pub archive: Option<&'a str>,
     /// The folder that has both.
     pub cache: Option<&'a str>,
+    /// How many bytes of files are kept; without it all are.
+    pub budget: Option<&'a str>,
     /// What a load costs, and how many bytes cost 1 more.
     pub base: Option<&'a str>,
     pub rate: Option<&'a str>,
@@ -225,7 +233,7 @@ fn with_numbers<'a>(alloc: Global, command: Command<'a>) -> Result<Command<'a>, 
     with_numbered(alloc, command, "retries", 0, MOST_RETRIES, RETRIES_HELP)
 }
 
-// And with the record, the archive and the cache.
+// And with the record, the archive, the cache, and how much is kept.
 fn with_cache<'a>(alloc: Global, command: Command<'a>) -> Result<Command<'a>, Error>
     requires { IsLocal command }
     ensures ok { IfOk result (λ whole. app_of whole
@@ -236,7 +244,8 @@ fn with_cache<'a>(alloc: Global, command: Command<'a>) -> Result<Command<'a>, Er
     let command = with_numbers(alloc, command)?;
     let command = with_named(alloc, command, "record", "FILE", RECORD_HELP)?;
     let command = with_named(alloc, command, "archive", "DIR", ARCHIVE_HELP)?;
-    with_named(alloc, command, "cache", "DIR", CACHE_HELP)
+    let command = with_named(alloc, command, "cache", "DIR", CACHE_HELP)?;
+    with_numbered(alloc, command, "budget", 0, MOST_BUDGET, BUDGET_HELP)
 }
 
 /// A command with the options of each run, and of each plan of one.
@@ -331,6 +340,7 @@ pub fn run_words<'a>(words: &ArgMatches<'a>) -> RunWords<'a>
         record_file: words.get_str("record"),
         archive: words.get_str("archive"),
         cache: words.get_str("cache"),
+        budget: words.get_str("budget"),
         base: words.get_str("base"),
         rate: words.get_str("rate"),
         keep: is_given(words, "keep"),
@@ -377,6 +387,16 @@ pub fn retries_of(words: &RunWords) -> u64
     match words.retries {
         None => 0,
         Some(text) => read_or(text, 0, MOST_RETRIES, 0),
+    }
+}
+
+/// How many bytes of files are kept at most: any number if the words don't say.
+pub fn budget_of(words: &RunWords) -> Option<u64>
+    ensures { IsBudget (option_map (λ s. s.now) words.now.budget) result }
+{
+    match words.budget {
+        None => None,
+        Some(text) => Some(read_or(text, 0, MOST_BUDGET, MOST_BUDGET)),
     }
 }
 

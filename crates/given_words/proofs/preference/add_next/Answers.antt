@@ -1,4 +1,4 @@
-use Rattle.std.proofs.Common.{◌≡◌, ◌∙◌, ◌++◌, ◌∷◌, [], ap, map, rules, string_bytes}
+use Rattle.std.proofs.Common.{◌∙◌, ◌++◌, ◌∷◌, [], ap, map, rules, string_bytes}
 use Rattle.std.proofs.lemmas.List.{map-append, append_assoc}
 use Rattle.given_words.proofs.TwoWords.{two_more}
 use Rattle.given_words.proofs.preference.add_next.Goals as goal

@@ -26,8 +26,10 @@ returns c =
     c.get_str-8.ensures ∙ first_value-rows found (codes "archive") in
     let cache : option_map (λ s. s.now) c.get_str-9.result ≡ first_of (codes "cache") (rows_of found) =
     c.get_str-9.ensures ∙ first_value-rows found (codes "cache") in
-    let base : option_map (λ s. s.now) c.get_str-10.result ≡ first_of (codes "base") (rows_of found) =
-    c.get_str-10.ensures ∙ first_value-rows found (codes "base") in
-    let rate : option_map (λ s. s.now) c.get_str-11.result ≡ first_of (codes "rate") (rows_of found) =
-    c.get_str-11.ensures ∙ first_value-rows found (codes "rate") in
-    rw (document, inputs, work, outdir, slots, retries, record_file, archive, cache, base, rate, c.is_given.ensures, c.is_given-2.ensures, c.telling_of.ensures, c.shows_of.ensures, c.is_wanted.ensures) refl
+    let budget : option_map (λ s. s.now) c.get_str-10.result ≡ first_of (codes "budget") (rows_of found) =
+    c.get_str-10.ensures ∙ first_value-rows found (codes "budget") in
+    let base : option_map (λ s. s.now) c.get_str-11.result ≡ first_of (codes "base") (rows_of found) =
+    c.get_str-11.ensures ∙ first_value-rows found (codes "base") in
+    let rate : option_map (λ s. s.now) c.get_str-12.result ≡ first_of (codes "rate") (rows_of found) =
+    c.get_str-12.ensures ∙ first_value-rows found (codes "rate") in
+    rw (document, inputs, work, outdir, slots, retries, record_file, archive, cache, budget, base, rate, c.is_given.ensures, c.is_given-2.ensures, c.telling_of.ensures, c.shows_of.ensures, c.is_wanted.ensures) refl
