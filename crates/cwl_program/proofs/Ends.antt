@@ -40,7 +40,7 @@ module _ {R K L : Type 0} (records : RecordsOf R K L) (rows : RowsOf K) (rt : R)
       (subst (λ (e : Exit). LeadsTo records rows rt words path e None (asks_why choice) (telling_of choice)) (sym short) (out_of_memory choice asked))))
 
 pub told_alone : (exit : Exit) (left : Option Text) (savings : Option Savings) (unkept : Option Text) (out out_new err err_told err_new : Held) (why : Bool)
-    → why ≡ false → Prints exit out out_new err err_told → IsUnkeptTold unkept err_told err_new → IsTold exit left savings unkept out out_new err err_new why
+    → why ≡ false → Prints exit out out_new err err_told → IsUnkeptTold exit unkept err_told err_new → IsTold exit left savings unkept out out_new err err_new why
 told_alone exit left savings unkept out out_new err err_told err_new why unasked line lost =
     subst (λ (b : Bool). IsTold exit left savings unkept out out_new err err_new b) (sym unasked) (alone err_told line lost)
 

@@ -26,7 +26,7 @@ use Rattle.run_rules.specs.declared.setting.Options.{Options}
 use Rattle.cwl_program.specs.Caches.{is_twofold, record_of}
 use Rattle.cwl_program.specs.Demo as demo
 use Rattle.end_words.specs.Leaving.{left_of}
-use Rattle.program_words.specs.RunWords.{RunWish}
+use Rattle.program_words.specs.RunWords.{IsBudget, RunWish}
 use Rattle.cwl_program.specs.Paths.{IsAt, from_root}
 use Rattle.cwl_program.specs.Runs.{IsAsked, IsEndOfRun, IsInputsText, IsInputsUnread, IsInputsUrl, IsNamedInputs, IsNamedProcess, IsNoInputs, IsNoProcess, IsRanOver, IsRead, IsReady, IsRunExit, IsUnready, document_unread, document_wrong, in_file, in_memory, inputs_unread, inputs_wrong, lost, no_inputs, no_outdir, no_process, no_record, no_work, runs, stops, twofold, unready}
 use Rattle.cwl_program.specs.Seen.{IsUnasked, Seen, new_memory, seen, seen_memory}
@@ -176,18 +176,19 @@ module _ {R K L : Type 0} (records : RecordsOf R K L) (rows : RowsOf K) (rt : R)
       ends_as (IsEndOfRun records rows rt words path) _ answer (unready here (no_record given file fault ready named)) is gone
 
   -- a run over the record of the file that is named
-  pub over_file : (words : RunWish) (path file : Text) (old new : K) (closed : L) (answer : Result RunEnd AllocError)
-      → record_of words ≡ Some file → records.opens rt file old → rows.log old ≡ []
+  pub over_file : (words : RunWish) (path file : Text) (budget : Option ℕ) (old new : K) (closed : L) (answer : Result RunEnd AllocError)
+      → record_of words ≡ Some file → IsBudget words.budget budget → records.opens rt file budget old → rows.log old ≡ []
       → IfOk answer (λ end. IsRunExit words path (seen rows old) (seen rows new) end.exit end.left) → records.leaves new closed
       → IfOk answer (λ end. IsEndOfRun records rows rt words path end.exit end.left)
-  over_file words path file old new closed answer named opened fresh is leaves = IfOk-weaker answer _ _ (λ end e. in_file file old new closed named opened fresh e leaves) is
+  over_file words path file budget old new closed answer named allowed opened fresh is leaves =
+      IfOk-weaker answer _ _ (λ end e. in_file file budget old new closed named allowed opened fresh e leaves) is
 
   -- or over a new one in memory
-  pub over_memory : (words : RunWish) (path : Text) (new : MemoryState) (answer : Result RunEnd AllocError)
-      → record_of words ≡ None
-      → IfOk answer (λ end. IsRunExit words path (seen_memory new_memory) (seen_memory new) end.exit end.left)
+  pub over_memory : (words : RunWish) (path : Text) (budget : Option ℕ) (new : MemoryState) (answer : Result RunEnd AllocError)
+      → record_of words ≡ None → IsBudget words.budget budget
+      → IfOk answer (λ end. IsRunExit words path (seen_memory (new_memory budget)) (seen_memory new) end.exit end.left)
       → IfOk answer (λ end. IsEndOfRun records rows rt words path end.exit end.left)
-  over_memory words path new answer unnamed is = IfOk-weaker answer _ _ (λ end e. in_memory new unnamed e) is
+  over_memory words path budget new answer unnamed allowed is = IfOk-weaker answer _ _ (λ end e. in_memory budget new unnamed allowed e) is
 
 -- a folder of the run is in the way, for some reason
 hindered : {Why : Type 0} (IsEnd : Exit → Option Text → Type 0) (exit_for : Why → Exit) (answer : Result RunEnd AllocError)

@@ -22,7 +22,7 @@ use Rattle.cwl_program.specs.Caches.{archive_of, is_twofold, record_of}
 use Rattle.end_words.specs.Leaving.{left_of}
 use Rattle.cwl_program.specs.Paths.{IsAt, from_root}
 use Rattle.cwl_program.specs.Seen.{IsUnasked, Seen, new_memory, seen, seen_memory}
-use Rattle.program_words.specs.RunWords.{IsChosen, RunWish}
+use Rattle.program_words.specs.RunWords.{IsBudget, IsChosen, RunWish}
 use Rattle.cwl_program.specs.Sources.{IsAccepted, IsDocumentStop, IsInputs, IsInputsStop}
 use Rattle.end_words.specs.RunEnds.{run_exit}
 use Rattle.end_words.specs.Stops.{IsUnread, most_bytes}
@@ -40,9 +40,9 @@ pub data IsRanOver (process : Process) (inputs : Fields) (options : Options) (ol
       RunsByMap before after old.lines new.lines old.IsSound new.IsSound old.Holds new.Holds process inputs options result →
       IfErr result (IsHostsFault before after) → BlamesRecord old.lines new.lines result → IsRanOver process inputs options old new (run_exit after result)
 
--- over a record that is kept in memory alone
+-- over a record that is kept in memory alone, without a budget
 abbrev pub IsRan : (process : Process) (inputs : Fields) (options : Options) → Exit → Type 0
-IsRan process inputs options exit = (new : MemoryState) × IsRanOver process inputs options (seen_memory new_memory) (seen_memory new) exit
+IsRan process inputs options exit = (new : MemoryState) × IsRanOver process inputs options (seen_memory (new_memory None)) (seen_memory new) exit
 
 -- ---- what the words of `run` name, for a program that is called in the folder `here`
 
@@ -136,12 +136,14 @@ pub data IsRunExit (words : RunWish) (path : Text) (old new : Seen) : Exit → (
 
 module _ {R K L : Type 0} (records : RecordsOf R K L) (rows : RowsOf K) (rt : R) where
   -- How the words of `run` end the program: over the record that was opened of the file that they name, of which nothing was asked before, and
-  -- which is closed then; or where they name none over a new one that is kept in memory alone; or before there is a record.
+  -- which is closed then; or where they name none over a new one that is kept in memory alone; or before there is a record. The archives of the
+  -- record may have together as many bytes as the words say, if they say so.
   pub data IsEndOfRun (words : RunWish) (path : Text) : Exit → (left : Option Text) → Type 0 where
-    in_file : {exit : Exit} {left : Option Text} (file : Text) (old new : K) (closed : L) → record_of words ≡ Some file → records.opens rt file old →
+    in_file : {exit : Exit} {left : Option Text} (file : Text) (budget : Option ℕ) (old new : K) (closed : L) → record_of words ≡ Some file →
+        IsBudget words.budget budget → records.opens rt file budget old →
         rows.log old ≡ [] → IsRunExit words path (seen rows old) (seen rows new) exit left → records.leaves new closed → IsEndOfRun words path exit left
-    in_memory : {exit : Exit} {left : Option Text} (new : MemoryState) → record_of words ≡ None →
-        IsRunExit words path (seen_memory new_memory) (seen_memory new) exit left → IsEndOfRun words path exit left
+    in_memory : {exit : Exit} {left : Option Text} (budget : Option ℕ) (new : MemoryState) → record_of words ≡ None → IsBudget words.budget budget →
+        IsRunExit words path (seen_memory (new_memory budget)) (seen_memory new) exit left → IsEndOfRun words path exit left
     unready : {exit : Exit} (here : Text) → IsUnready here words exit → IsEndOfRun words path exit None
     -- the name of the current folder can't be found
     lost : IsEndOfRun words path (exits.Fault faults.Folder) None

@@ -1,5 +1,5 @@
 -- What a run sees of the record that it asks.
-use Rattle.std.specs.Prelude.{◌≡◌, [], List}
+use Rattle.std.specs.Prelude.{◌≡◌, ℕ, [], List, Option}
 use Rattle.job_rows.specs.Map.{RowMap}
 use Rattle.job_rows.specs.Memory.{IsMapOf, MemoryState}
 use Rattle.job_rows.specs.declared.record.Record.{Ghosts}
@@ -16,11 +16,11 @@ seen rows kept = record { lines = rows.log kept; IsSound = rows.is_sound kept; H
 
 -- a record that is kept in memory alone
 abbrev pub seen_memory : MemoryState → Seen
-seen_memory memory = record { lines = memory.log; IsSound = Unit {0}; Holds = IsMapOf memory.rows }
+seen_memory memory = record { lines = memory.log; IsSound = Unit {0}; Holds = IsMapOf memory }
 
 -- of which nothing was asked, and which has no row
-abbrev pub new_memory : MemoryState
-new_memory = record { rows = []; log = [] }
+abbrev pub new_memory : (budget : Option ℕ) → MemoryState
+new_memory budget = record { rows = []; archives = []; budget = budget; log = [] }
 
 -- nothing was asked of it in between, and its rows are as they were
 pub record IsUnasked (old new : Seen) : Type 0 where

@@ -105,7 +105,7 @@ fn ended(alloc: Global, given: &Given, world: World) -> Result<Exit, AllocError>
 {
     let World { options, script } = world;
     let mut host = Scripted::new(alloc, script, 0);
-    let mut rows = MemoryRecord::new(alloc);
+    let mut rows = MemoryRecord::new(alloc, None);
     let report = run(
         alloc,
         &mut host,

@@ -18,7 +18,7 @@ use crate::usual_words::{answer_words, processors_of};
 use clap::Error;
 use clap::error::ErrorKind;
 use end_words::{Exit, Fault, RunEnd, explain_exit, put_left, put_notes, put_savings, put_unkept};
-use given_words::{with_preference, with_slots};
+use given_words::{with_budget, with_preference, with_slots};
 use plain_data::Text;
 use process_machine::World;
 use program_words::{
@@ -86,8 +86,10 @@ fn words(rt: &HostRuntime) -> io::Result<Vec<String>> {
     mem::drop(given);
     let preferred = with_preference(rt.alloc(), settled.as_slice())?;
     mem::drop(settled);
-    let mut words = name_json_word(rt.alloc(), preferred.as_slice())?;
+    let counted = with_budget(rt.alloc(), preferred.as_slice())?;
     mem::drop(preferred);
+    let mut words = name_json_word(rt.alloc(), counted.as_slice())?;
+    mem::drop(counted);
     let is_terminal = rt.stderr().is_terminal();
     if is_terminal && !is_set(rt, "TERM", "dumb") {
         add_terminal_words(rt.alloc(), &mut words)?;
@@ -189,7 +191,7 @@ fn tell<O: Write, E: Write>(alloc: Global, end: &End, out: &mut O, err: &mut E) 
         put_savings(alloc, &end.run.exit, &end.run.savings, err)?;
         return put_left(alloc, &end.run.left, err);
     }
-    put_unkept(alloc, &end.run.unkept, err)
+    put_unkept(alloc, &end.run.exit, &end.run.unkept, err)
 }
 
 /// Returns the end that the words lead to, or `clap`'s error. What becomes of the jobs of a run is said on the errors if the words want it.

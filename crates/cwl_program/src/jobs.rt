@@ -4,7 +4,7 @@ use command_line::Launch;
 use cwl_value::JobPlace;
 use end_words::{Misses, Remembered, place_in};
 use job_rows::Row;
-use plain_data::{Keyed, Text};
+use plain_data::{Items, Keyed, Text};
 use proc_host::{ChildEnd, HostAnswer, HostFault, HostRequest};
 use program_words::{Counts, Listen, Longest, Recalled, Savings, Why, reason_for};
 use run_core::{RecordAnswer, RecordRequest};
@@ -43,6 +43,24 @@ struct Running {
     since: u64,
 }
 
+/// How the jobs are held that were put under a key.
+#[derive(Clone, Copy, Drop, PartialEq, Eq)]
+enum Holding {
+    /// With their files if an archive is kept.
+    Kept,
+    /// Their files could not be stored, or are not what they were.
+    Unkept,
+    /// The budget had no room for their files.
+    OverBudget,
+}
+
+/// The jobs of this run that were put under a key.
+#[derive(Drop)]
+struct Held {
+    jobs: u64,
+    holding: Holding,
+}
+
 /// What a run left that speaks of its jobs, whose places are JSON text.
 #[derive(Drop)]
 pub struct Traces<'a> {
@@ -57,11 +75,18 @@ pub struct Traces<'a> {
     // what the record had of jobs, while there is room for their files
     rows: Keyed<Remembered>,
     room: usize,
+    // under each key that was put what became of its jobs
+    held: Keyed<Held>,
     /// The jobs whose files could not be stored.
     pub unstored: Misses,
     /// The jobs whose rows the record refused, and the code of the last refusal.
     pub unput: Misses,
     pub refusal: &'static str,
+    /// The jobs whose use the record refused to note, and the code of the last such refusal.
+    pub untouched: Misses,
+    pub use_refusal: &'static str,
+    /// The jobs after which files could not be removed from the archive.
+    pub undiscarded: Misses,
 }
 
 impl<'a> Traces<'a> {
@@ -77,9 +102,13 @@ impl<'a> Traces<'a> {
             failures: Keyed::new(alloc),
             rows: Keyed::new(alloc),
             room: FILES_KEPT,
+            held: Keyed::new(alloc),
             unstored: Misses::none(),
             unput: Misses::none(),
             refusal: "",
+            untouched: Misses::none(),
+            use_refusal: "",
+            undiscarded: Misses::none(),
         }
     }
 
@@ -108,6 +137,52 @@ impl<'a> Traces<'a> {
     pub fn failed_at(&self, fault: HostFault) -> Option<&Text> {
         self.failures.get(fault.code())
     }
+
+    /// How many jobs of this run the record has without their files, since the budget had no room for them.
+    pub fn over_budget(&self) -> u64 {
+        self.jobs_held(Holding::OverBudget)
+    }
+
+    fn jobs_held(&self, holding: Holding) -> u64 {
+        let mut jobs: u64 = 0;
+        for (_, held) in self.held.as_slice() {
+            if held.holding == holding {
+                jobs = jobs.saturating_add(held.jobs);
+            }
+        }
+        jobs
+    }
+
+    fn hold_one_more(
+        &mut self,
+        alloc: Global,
+        key: &Text,
+        is_kept: bool,
+    ) -> Result<(), AllocError> {
+        let jobs = match self.held.get(key.as_str()) {
+            None => 0,
+            Some(held) => held.jobs,
+        };
+        let holding = if is_kept {
+            Holding::Kept
+        } else {
+            Holding::Unkept
+        };
+        let jobs = jobs.saturating_add(1);
+        self.held
+            .insert(key.copied(alloc)?, Held { jobs, holding })?;
+        Ok(())
+    }
+
+    // The files of a key are not kept any longer.
+    fn lose(&mut self, alloc: Global, key: &Text, holding: Holding) -> Result<(), AllocError> {
+        if let Some(Held { jobs, .. }) = self.held.get(key.as_str()) {
+            let jobs = *jobs;
+            self.held
+                .insert(key.copied(alloc)?, Held { jobs, holding })?;
+        }
+        Ok(())
+    }
 }
 
 /// Keeps what becomes of each job, under its place as JSON text, and hands it to a listener. What there is no room for is left out.
@@ -135,8 +210,6 @@ pub struct Jobs<'a, R: AllocGlobal + Clock, L: Listen> {
     loaded: u64,
     // what it took to compute the jobs that this run did not compute
     gained: u64,
-    // how many jobs have a row from this run, with their files if an archive is kept
-    kept: u64,
     // how many files and folders go to the output folder
     delivered: u64,
     // whether nothing was left out
@@ -162,7 +235,6 @@ impl<'a, R: AllocGlobal + Clock, L: Listen> Jobs<'a, R, L> {
             done: Keyed::new(alloc),
             loaded: 0,
             gained: 0,
-            kept: 0,
             delivered: 0,
             is_whole: true,
         }
@@ -202,10 +274,11 @@ impl<'a, R: AllocGlobal + Clock, L: Listen> Jobs<'a, R, L> {
         })
     }
 
-    // How many jobs were kept, if one that was to be kept couldn't be.
+    // How many jobs have a row from this run, with their files if an archive is kept: if one that was to be kept couldn't be.
     fn kept_if_not_all(&self) -> Option<u64> {
-        if self.traces.unstored.are_some() || self.traces.unput.are_some() {
-            Some(self.kept)
+        let traces = &self.traces;
+        if traces.unstored.are_some() || traces.unput.are_some() || traces.over_budget() > 0 {
+            Some(traces.jobs_held(Holding::Kept))
         } else {
             None
         }
@@ -278,8 +351,10 @@ impl<'a, R: AllocGlobal + Clock, L: Listen> Jobs<'a, R, L> {
 
     // Keeps the first job whose call failed so.
     fn note_failure(&mut self, place: &JobPlace, fault: HostFault) -> Result<(), AllocError> {
-        if fault == HostFault::Store {
-            self.traces.unstored.add(self.alloc, place)?;
+        match fault {
+            HostFault::Store => self.traces.unstored.add(self.alloc, place)?,
+            HostFault::Discard => self.traces.undiscarded.add(self.alloc, place)?,
+            _ => {}
         }
         if self.traces.failures.contains(fault.code()) {
             return Ok(());
@@ -343,6 +418,11 @@ impl<'a, R: AllocGlobal + Clock, L: Listen> Jobs<'a, R, L> {
                 self.settle()?;
                 self.recall(place, key, row)
             }
+            (RecordRequest::Touch(_), RecordAnswer::Refused(refusal)) => {
+                self.settle()?;
+                self.traces.use_refusal = refusal.code();
+                self.traces.untouched.add(self.alloc, place)
+            }
             (RecordRequest::DropArchive(key), _) => self.note_loss(key),
             (RecordRequest::Put(row), _) => {
                 self.settle()?;
@@ -358,12 +438,24 @@ impl<'a, R: AllocGlobal + Clock, L: Listen> Jobs<'a, R, L> {
         row: &Row,
         answer: &RecordAnswer,
     ) -> Result<(), AllocError> {
-        if let RecordAnswer::Refused(refusal) = answer {
-            self.traces.refusal = refusal.code();
-            return self.traces.unput.add(self.alloc, place);
+        match answer {
+            RecordAnswer::Put(gone) => self.note_row(row, gone),
+            RecordAnswer::Refused(refusal) => {
+                self.traces.refusal = refusal.code();
+                self.traces.unput.add(self.alloc, place)
+            }
+            _ => Ok(()),
         }
-        if row.archived || !self.memory.keeps {
-            self.kept = self.kept.saturating_add(1);
+    }
+
+    // A run without an archive keeps rows alone, so it loses nothing with the files of others.
+    fn note_row(&mut self, row: &Row, gone: &Items<Text>) -> Result<(), AllocError> {
+        let is_kept = row.archived || !self.memory.keeps;
+        self.traces.hold_one_more(self.alloc, &row.key, is_kept)?;
+        if self.memory.keeps {
+            for key in gone.as_slice() {
+                self.traces.lose(self.alloc, key, Holding::OverBudget)?;
+            }
         }
         Ok(())
     }
@@ -387,7 +479,7 @@ impl<'a, R: AllocGlobal + Clock, L: Listen> Jobs<'a, R, L> {
     fn note_loss(&mut self, key: &Text) -> Result<(), AllocError> {
         self.fetched = None;
         self.altered.insert(key.copied(self.alloc)?, true)?;
-        Ok(())
+        self.traces.lose(self.alloc, key, Holding::Unkept)
     }
 
     // Takes note that the run goes on with what was fetched last.

@@ -2,10 +2,10 @@
 ghost use Rattle.std.specs.Prelude.{◌≡◌, ◌++◌};
 ghost use Rattle.job_rows.specs.declared.log.Command.TheVariants as command;
 ghost use Rattle.job_rows.specs.Log.{entries_of, told_of};
-ghost use Rattle.job_rows.specs.Map.{RowMap, Finds, Puts, Drops};
+ghost use Rattle.job_rows.specs.Map.{RowMap, Finds, Puts, Touches, Drops};
 
 use job_rows::{Record, RecordError, Row};
-use plain_data::Text;
+use plain_data::{Items, Text};
 use plan_words::Known;
 use std::alloc::Global;
 
@@ -45,8 +45,12 @@ impl<K: Record> Record for Looks<'_, K> {
         answer
     }
 
-    fn put(&mut self, row: &Row) -> Result<(), RecordError> {
+    fn put(&mut self, row: &Row) -> Result<Items<Text>, RecordError> {
         self.rows.put(row)
+    }
+
+    fn touch(&mut self, key: &Text) -> Result<(), RecordError> {
+        self.rows.touch(key)
     }
 
     fn drop_archive(&mut self, key: &Text) -> Result<(), RecordError> {

@@ -6,8 +6,9 @@ use command_line::{BuildFault, Launch};
 use cwl_process::Tool;
 use end_words::{
     Exit, Fault, Given, add_ending, add_listing, add_mismatch, add_obstacle, add_output,
-    add_remarks, add_start, add_tally, add_uncopied, add_unput, add_unstored, full_line,
-    misfit_lines, missing_lines, secondary_lines, step_lines, tool_lines, tool_of,
+    add_over_budget, add_remarks, add_start, add_tally, add_uncopied, add_undiscarded, add_unput,
+    add_unstored, add_untouched, misfit_lines, missing_lines, secondary_lines, step_lines,
+    tool_lines, tool_of, unkept_for_room,
 };
 use job_graph::Cause as NoValue;
 use plain_data::Text;
@@ -60,10 +61,10 @@ fn all_lines<R: World>(
 /// Returns a line on the jobs whose files there was no room for, if that is why they were not kept. If memory runs out there is none.
 pub fn unkept_on<R: World>(alloc: Global, host: &Machine<R>, traces: &Traces<'_>) -> Option<Text> {
     let archive = archive_of(traces);
-    full_line(alloc, &traces.unstored, archive, host.unstored()).unwrap_or(None)
+    unkept_for_room(alloc, &traces.unstored, archive, host.unstored()).unwrap_or(None)
 }
 
-// Adds which jobs could not be kept for later runs, and why.
+// Adds which jobs could not be kept for later runs, and why, and what could not be noted or removed of those that are kept.
 fn add_unkept<R: World>(
     alloc: Global,
     host: &Machine<R>,
@@ -72,7 +73,10 @@ fn add_unkept<R: World>(
 ) -> Result<(), AllocError> {
     let archive = archive_of(traces);
     add_unstored(alloc, &traces.unstored, archive, host.unstored(), lines)?;
-    add_unput(alloc, &traces.unput, traces.refusal, lines)
+    add_over_budget(alloc, traces.over_budget(), lines)?;
+    add_unput(alloc, &traces.unput, traces.refusal, lines)?;
+    add_untouched(alloc, &traces.untouched, traces.use_refusal, lines)?;
+    add_undiscarded(alloc, &traces.undiscarded, archive, lines)
 }
 
 // The name of the archive or of the cache.

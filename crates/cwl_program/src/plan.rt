@@ -181,7 +181,7 @@ where
         call.now.path.now end.exit) }
     ensures left { IfOk result (λ end. end.left ≡ None) }
 {
-    let mut rows = MemoryRecord::new(rt.alloc());
+    let mut rows = MemoryRecord::new(rt.alloc(), None);
     let end = by_rows(rt, given, call, &mut rows, dot);
     mem::drop(rows);
     end
@@ -202,7 +202,7 @@ where
         call.now.path.now end.exit) }
     ensures left { IfOk result (λ end. end.left ≡ None) }
 {
-    match rt.open_record(file) {
+    match rt.open_record(file, None) {
         Ok(mut rows) => {
             let end = by_rows(rt, given, call, &mut rows, dot);
             let left = rt.close_record(rows);

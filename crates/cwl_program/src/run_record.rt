@@ -12,6 +12,7 @@ use job_record::RecordFault;
 use job_rows::MemoryRecord;
 use plain_data::Text;
 use process_machine::World;
+use program_words::budget_of;
 use record_program::Records;
 use std::alloc::{AllocError, Global};
 use std::io::Write;
@@ -60,7 +61,7 @@ where
     ensures end { IfOk result (λ end. IsEndOfRun R.Records R.Kept.Record rt.now
         (wish_of_run call.now.words.now) call.now.path.now end.exit end.left) }
 {
-    let mut rows = MemoryRecord::new(rt.alloc());
+    let mut rows = MemoryRecord::new(rt.alloc(), budget_of(call.words));
     let end = on_disk(rt, given, places, call, &mut rows, err);
     mem::drop(rows);
     end
@@ -85,7 +86,7 @@ where
         (wish_of_run call.now.words.now) call.now.path.now end.exit end.left) }
 {
     make_cache(rt, call.words);
-    match rt.open_record(file) {
+    match rt.open_record(file, budget_of(call.words)) {
         Ok(mut rows) => {
             let end = on_disk(rt, given, places, call, &mut rows, err);
             let left = rt.close_record(rows);

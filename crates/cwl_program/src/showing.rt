@@ -112,14 +112,26 @@ fn of_shown<R: World>(rt: &R, given: &Given, call: &Call<'_>) -> Result<RunEnd, 
         end.exit) }
     ensures left { IfOk result (λ end. end.left ≡ None) }
 {
+    let notes = remarks_on(rt, given, call)?;
     let exit = exit_of(rt.alloc(), given, call)?;
-    let mut end = RunEnd::bare(rt.alloc(), exit);
+    Ok(RunEnd {
+        exit,
+        left: None,
+        notes,
+        savings: None,
+        unkept: None,
+    })
+}
+
+// What is known to be wrong with a process, and what of it is ignored, where that is asked for.
+fn remarks_on<R: World>(rt: &R, given: &Given, call: &Call<'_>) -> Result<Vec<String>, AllocError> {
+    let mut lines = Vec::new(rt.alloc());
     if call.words.shows == Shows::Lines {
         let file = file_of(call.words.inputs);
-        add_foreseen(rt.alloc(), &given.process, &mut end.notes)?;
-        add_remarks(rt, given, call.words.document, file, &mut end.notes)?;
+        add_foreseen(rt.alloc(), &given.process, &mut lines)?;
+        add_remarks(rt, given, call.words.document, file, &mut lines)?;
     }
-    Ok(end)
+    Ok(lines)
 }
 
 // The first input whose value has to fit and does not.

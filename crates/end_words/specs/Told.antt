@@ -82,15 +82,25 @@ abbrev pub IsLeftTold : Option Text → (err err_new : Held) → Type 0
 IsLeftTold None err err_new = err_new ≡ err
 IsLeftTold (Some work) err err_new = IsPut (left_words work) err err_new
 
--- a line on what could not be kept for later runs since there is no room, where there is such a thing
-abbrev pub IsUnkeptTold : Option Text → (err err_new : Held) → Type 0
-IsUnkeptTold None err err_new = err_new ≡ err
-IsUnkeptTold (Some line) err err_new = IsPut line err err_new
+-- what a run could not keep for later ones since there is no room
+abbrev pub unkept_words : (what : List ℕ) → List ℕ
+unkept_words what = codes "not kept: " ++ what
+
+abbrev pub IsUnkeptLine : Option Text → (err err_new : Held) → Type 0
+IsUnkeptLine None err err_new = err_new ≡ err
+IsUnkeptLine (Some what) err err_new = IsPut (unkept_words what) err err_new
+
+-- none behind a plan, a broken certificate and the rows of a record, which keep nothing
+abbrev pub IsUnkeptTold : Exit → Option Text → (err err_new : Held) → Type 0
+IsUnkeptTold (Planned texts) what err err_new = err_new ≡ err
+IsUnkeptTold (Broken rule) what err err_new = err_new ≡ err
+IsUnkeptTold (Shows ending) what err err_new = err_new ≡ err
+IsUnkeptTold exit what err err_new = IsUnkeptLine what err err_new
 
 -- an end is said in its line; where it is to be explained, words follow on the errors, lines on what failed, what became of the jobs, and
 -- where the work folder is; else only what could not be kept
 pub data IsTold (exit : Exit) (left : Option Text) (savings : Option Savings) (unkept : Option Text) (out out_new err err_new : Held) : Bool → Type 0 where
-  alone : (err_told : Held) → Prints exit out out_new err err_told → IsUnkeptTold unkept err_told err_new → IsTold exit left savings unkept out out_new err err_new false
+  alone : (err_told : Held) → Prints exit out out_new err err_told → IsUnkeptTold exit unkept err_told err_new → IsTold exit left savings unkept out out_new err err_new false
   explained : (err_told err_words err_noted err_counted : Held) → Prints exit out out_new err err_told → IsExplained exit err_told err_words →
       AreNotes exit err_words err_noted → IsSavingsTold exit savings err_noted err_counted → IsLeftTold left err_counted err_new →
       IsTold exit left savings unkept out out_new err err_new true

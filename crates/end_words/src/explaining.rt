@@ -1,7 +1,7 @@
 //! What went wrong, in words (`--explain`).
 ghost use Rattle.std.specs.Prelude.{◌≡◌, IfOk, OnOk, string_bytes};
 ghost use Rattle.std.specs.Io.KnownBytes.{Appends};
-ghost use Rattle.end_words.specs.Told.{AreNotes, HasLine, HasLines, IsEndingExplained, IsExplained, IsLeftTold, IsPut, IsSavingsLine, IsSavingsTold, IsUnkeptTold, left_words};
+ghost use Rattle.end_words.specs.Told.{AreNotes, HasLine, HasLines, IsEndingExplained, IsExplained, IsLeftTold, IsPut, IsSavingsLine, IsSavingsTold, IsUnkeptLine, IsUnkeptTold, left_words, unkept_words};
 
 use crate::exit::{Exit, Fault, PlanTexts, Refusal, Unreadable};
 use crate::refused_inputs::value_words;
@@ -155,14 +155,36 @@ pub fn put_left<E: Write>(alloc: Global, left: &Option<Text>, err: &mut E) -> io
     }
 }
 
-/// Writes what could not be kept since there is no room, if anything is to be said of that.
-pub fn put_unkept<E: Write>(alloc: Global, unkept: &Option<Text>, err: &mut E) -> io::Result<()>
-    ensures { OnOk result (IsUnkeptTold unkept.now (E.contents err.old) (E.contents err.new)) }
+/// Writes what a run could not keep since there is no room, if it speaks of that.
+pub fn put_unkept<E: Write>(
+    alloc: Global,
+    exit: &Exit,
+    unkept: &Option<Text>,
+    err: &mut E,
+) -> io::Result<()>
+    ensures { OnOk result (IsUnkeptTold exit.now unkept.now (E.contents err.old)
+        (E.contents err.new)) }
+{
+    match exit {
+        Exit::Plan(_) | Exit::Broken(_) | Exit::Record(_) => Ok(()),
+        _ => put_unkept_line(alloc, unkept, err),
+    }
+}
+
+fn put_unkept_line<E: Write>(alloc: Global, unkept: &Option<Text>, err: &mut E) -> io::Result<()>
+    ensures { OnOk result (IsUnkeptLine unkept.now (E.contents err.old) (E.contents err.new)) }
 {
     match unkept {
         None => Ok(()),
-        Some(line) => put_line(alloc, line.as_str(), err),
+        Some(what) => put_line(alloc, unkept_words(alloc, what.as_str())?.as_str(), err),
     }
+}
+
+/// The line on what could not be kept.
+pub(crate) fn unkept_words(alloc: Global, what: &str) -> Result<String, AllocError>
+    ensures { IfOk result (λ words. string_bytes words ≡ unkept_words what.now) }
+{
+    format!(in alloc; "not kept: {what}")
 }
 
 fn left_words(alloc: Global, work: &Text) -> Result<String, AllocError>
@@ -511,5 +533,6 @@ fn host_words(fault: HostFault) -> &'static str {
         HostFault::Fetch => "the kept files of an earlier job can't be read",
         HostFault::Store => "the output files of a job can't be kept",
         HostFault::Deliver => "an output file can't be copied into the output folder",
+        HostFault::Discard => "the kept files of a job can't be removed",
     }
 }

@@ -44,7 +44,8 @@ fn named_in(alloc: Global, request: &HostRequest) -> Result<Option<Text>, AllocE
         | HostRequest::Collect
         | HostRequest::Fetch(_, _, _)
         | HostRequest::Store(_, _, _)
-        | HostRequest::Deliver(_) => Ok(None),
+        | HostRequest::Deliver(_)
+        | HostRequest::Discard(_) => Ok(None),
     }
 }
 

@@ -54,4 +54,7 @@ pub use search::{Reached, reached_from};
 pub use start_notes::{add_listing, add_obstacle, add_start, add_uncopied};
 pub use stop::{Stop, stopped, stopped_call, stopped_run, unread, unread_for};
 pub use tool_texts::{add_output, step_lines, tool_lines, tool_of};
-pub use unkept::{Misses, add_unput, add_unstored, full_line};
+pub use unkept::{
+    Misses, add_over_budget, add_undiscarded, add_unput, add_unstored, add_untouched,
+    unkept_for_room,
+};

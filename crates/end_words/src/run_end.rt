@@ -19,7 +19,7 @@ pub struct RunEnd {
     pub notes: Vec<String>,
     /// What became of its jobs, if a run that succeeded says it.
     pub savings: Option<Savings>,
-    /// What could not be kept for later runs since there is no room, in one line that is said though no words are asked for.
+    /// What a run could not keep since there is no room, which is said in one line though no words are asked for.
     pub unkept: Option<Text>,
 }
 

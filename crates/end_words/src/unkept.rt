@@ -1,11 +1,14 @@
-//! What is said of jobs that a run could not keep for later runs.
+//! What is said of jobs that a run could not keep for later runs, and of what it could not note or remove of those that are kept.
 
-use crate::explaining::hindrance_words;
+use crate::explaining::{hindrance_words, unkept_words};
 use crate::report::place_in;
 use cwl_value::JobPlace;
 use plain_data::Text;
 use process_machine::Hindrance;
 use std::alloc::{AllocError, Global};
+
+/// The archive of a run that doesn't say its name.
+const ARCHIVE: &str = "the archive";
 
 /// Jobs that missed the same: the first one's place as JSON text, and how many there are.
 #[derive(Drop)]
@@ -44,14 +47,14 @@ pub fn add_unstored(
     why: Option<Hindrance>,
     lines: &mut Vec<String>,
 ) -> Result<(), AllocError> {
-    if let Some(line) = unstored_line(alloc, missed, archive, why)? {
-        lines.push(line)?;
+    if let Some(what) = unstored(alloc, missed, archive, why)? {
+        lines.push(unkept_words(alloc, what.as_str())?)?;
     }
     Ok(())
 }
 
-/// Returns that line if there is no room for files: it is said though no words are asked for.
-pub fn full_line(
+/// Returns what that line says if there is no room for files: then it is said though no words are asked for.
+pub fn unkept_for_room(
     alloc: Global,
     missed: &Misses,
     archive: Option<&str>,
@@ -59,14 +62,14 @@ pub fn full_line(
 ) -> Result<Option<Text>, AllocError> {
     match why {
         Some(Hindrance::Full) => {
-            let line = unstored_line(alloc, missed, archive, why)?;
-            Ok(line.map(Text::from_string))
+            let what = unstored(alloc, missed, archive, why)?;
+            Ok(what.map(Text::from_string))
         }
         _ => Ok(None),
     }
 }
 
-fn unstored_line(
+fn unstored(
     alloc: Global,
     missed: &Misses,
     archive: Option<&str>,
@@ -75,15 +78,29 @@ fn unstored_line(
     let Some(jobs) = jobs_in(alloc, missed)? else {
         return Ok(None);
     };
-    let place = archive.unwrap_or("the archive");
-    let mut line = format!(in alloc;
-        "not kept: {jobs}, whose files could not be stored in {place}"
-    )?;
+    let place = archive.unwrap_or(ARCHIVE);
+    let mut what = format!(in alloc; "{jobs}, whose files could not be stored in {place}")?;
     if let Some(why) = why {
-        line.push_str(": ")?;
-        line.push_str(hindrance_words(why))?;
+        what.push_str(": ")?;
+        what.push_str(hindrance_words(why))?;
     }
-    Ok(Some(line))
+    Ok(Some(what))
+}
+
+/// Adds a line on so many jobs, whose files the record did not keep since its budget is spent.
+pub fn add_over_budget(
+    alloc: Global,
+    jobs: u64,
+    lines: &mut Vec<String>,
+) -> Result<(), AllocError> {
+    let words = match jobs {
+        0 => return Ok(()),
+        1 => String::from_str(alloc, "1 job")?,
+        jobs => format!(in alloc; "{jobs} jobs")?,
+    };
+    let what = format!(in alloc; "{words}, for whose files the budget has no room")?;
+    lines.push(unkept_words(alloc, what.as_str())?)?;
+    Ok(())
 }
 
 /// Adds a line on the jobs whose rows the record refused, by a refusal of this code.
@@ -97,6 +114,37 @@ pub fn add_unput(
         return Ok(());
     };
     lines.push(format!(in alloc; "not kept: {jobs}, whose rows the record refused: {code}")?)?;
+    Ok(())
+}
+
+/// Adds a line on the jobs whose files were loaded and whose use the record refused to note, by a refusal of this code.
+pub fn add_untouched(
+    alloc: Global,
+    missed: &Misses,
+    code: &str,
+    lines: &mut Vec<String>,
+) -> Result<(), AllocError> {
+    let Some(jobs) = jobs_in(alloc, missed)? else {
+        return Ok(());
+    };
+    lines.push(format!(in alloc; "not noted: {jobs}, whose use the record refused: {code}")?)?;
+    Ok(())
+}
+
+/// Adds a line on the jobs after which files could not be removed from this archive or cache.
+pub fn add_undiscarded(
+    alloc: Global,
+    missed: &Misses,
+    archive: Option<&str>,
+    lines: &mut Vec<String>,
+) -> Result<(), AllocError> {
+    let Some(jobs) = jobs_in(alloc, missed)? else {
+        return Ok(());
+    };
+    let place = archive.unwrap_or(ARCHIVE);
+    lines.push(format!(in alloc;
+        "not removed: files in {place} that are kept no more, after {jobs}"
+    )?)?;
     Ok(())
 }
 

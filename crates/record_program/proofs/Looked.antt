@@ -1,5 +1,5 @@
 -- The look at a database before it is opened as a record changes neither a record nor a database with no table.
-use Rattle.std.proofs.Common.{◌≡◌, ◌⊎◌, inl, inr, ℕ, List, [], Bool, true, false, true≢false, Result, Ok, Err, IsTrue, refl, sym, ap, subst, ◌∙◌}
+use Rattle.std.proofs.Common.{◌≡◌, ◌⊎◌, inl, inr, ℕ, List, [], Bool, true, false, true≢false, Option, Result, Ok, Err, IsTrue, refl, sym, ap, subst, ◌∙◌}
 use Rattle.std.specs.Prelude.{IfOk}
 use Rattle.std.proofs.lemmas.Bool.{cases_Bool}
 use Rattle.sqlite.specs.Store.{Ghosts}
@@ -12,15 +12,21 @@ use Rattle.sqlite.specs.State.{State, HasCleanDisk, IsUnchanged, ShowsRows, Show
 use Rattle.sqlite.specs.Held.{Held, state}
 use Rattle.sqlite.proofs.Callers.{IsPlain, unchanged_then}
 use Rattle.sqlite_tied.specs.Compute.{everything}
+use Rattle.sqlite_trees.specs.Tree.{IsTable}
 use Rattle.sqlite_trees.specs.View.{doubt}
-use Rattle.job_rows.specs.Map.{RowMap}
-use Rattle.job_record.specs.Tables.{no_schema, record_schema}
-use Rattle.job_record.specs.Map.{held, held_in, IsKeyed, IsRecord}
+use Rattle.job_record.specs.declared.fault.RecordFault.TheVariants.{NotARecord, WrongVersion, NoRow, Store, UsesSpent, OutOfMemory}
+use Rattle.job_record.specs.Tables.{no_schema, first_schema, record_schema}
+use Rattle.job_record.specs.Keyed.{held_in, IsKeyed}
+use Rattle.job_record.specs.Map.{KeyMap, held, IsRecord, Stands}
 use Rattle.job_record.specs.Opening.{IsReady, Opens}
-use Rattle.job_record.specs.OpenMap.{IsBlank, OpensAs}
-use Rattle.job_record.specs.Rows.{AreKeptAs, IsMapOf, OpensWithRows}
+use Rattle.job_record.specs.OpenMap.{IsBlank, IsFirst, IsMigrated, AreArchivesOf, OpensAs}
+use Rattle.job_record.specs.Rows.{OpensWithRows}
 use Rattle.record_program.specs.Views.{views_text}
-use Rattle.record_program.specs.inner.Looked.{Spares}
+use Rattle.record_program.specs.declared.ending.Ending.{Ending}
+use Rattle.record_program.specs.declared.ending.Ending.TheVariants.{Rows, Input, Record}
+use Rattle.record_program.specs.Forgetting.{Shows, ShowsFirst}
+use Rattle.record_program.specs.inner.Looked.{MayOpen, Spares}
+use Rattle.record_program.proofs.LeavesOthers.{record_of, unchanged_of}
 
 record_plain : IsPlain (understood record_schema views_text)
 unfolding understood listing_schema everything
@@ -30,9 +36,14 @@ blank_plain : IsPlain (understood no_schema views_text)
 unfolding understood listing_schema everything
 blank_plain = (refl, refl)
 
-plain_at : (s : State) → IsBlank s ⊎ IsRecord s → IsPlain (understood s.now.schema views_text)
+first_plain : IsPlain (understood first_schema views_text)
+unfolding understood listing_schema everything
+first_plain = (refl, refl)
+
+plain_at : (s : State) → MayOpen s → IsPlain (understood s.now.schema views_text)
 plain_at s (inl blank) = subst (λ (t : Schema). IsPlain (understood t views_text)) (sym blank.schema) blank_plain
-plain_at s (inr it) = subst (λ (t : Schema). IsPlain (understood t views_text)) (sym it.schema) record_plain
+plain_at s (inr (inl first)) = subst (λ (t : Schema). IsPlain (understood t views_text)) (sym first.schema) first_plain
+plain_at s (inr (inr it)) = subst (λ (t : Schema). IsPlain (understood t views_text)) (sym it.schema) record_plain
 
 -- such a query changes nothing
 module _ (old new : State) (plain : IsPlain (understood old.now.schema views_text)) where
@@ -48,11 +59,22 @@ module _ (old new : State) (plain : IsPlain (understood old.now.schema views_tex
   row_same row (inr h) = shown_same h.0 h.1
 
 module _ (old new : State) where
-  pub looked : (c : Columns) → QueriesRow views_text [] old new (Ok c) → IsBlank old ⊎ IsRecord old → IsUnchanged old new
+  pub looked : (c : Columns) → QueriesRow views_text [] old new (Ok c) → MayOpen old → IsUnchanged old new
   looked c asked fits = row_same old new (plain_at old fits) c asked
 
-  still_record : IsUnchanged old new → IsRecord old → IsRecord new
+  pub still_record : IsUnchanged old new → IsRecord old → IsRecord new
   still_record u it = record {
+    schema = ap (λ (d : Database). d.schema) u.0.now_is ∙ it.schema;
+    sound = subst IsDatabase (sym u.0.now_is) it.sound;
+    keyed = subst (λ (d : Database). IsKeyed (d.trees 2)) (sym u.0.now_is) it.keyed;
+    kept = subst (λ (d : Database). IsKeyed (d.trees 4)) (sym u.0.now_is) it.kept;
+    ordered = subst (λ (d : Database). IsTable (d.trees 4)) (sym u.0.now_is) it.ordered;
+    settled = u.0.committed_is ∙ it.settled ∙ sym u.0.now_is;
+    autocommit = u.0.mode ∙ it.autocommit;
+  }
+
+  pub still_first : IsUnchanged old new → IsFirst old → IsFirst new
+  still_first u it = record {
     schema = ap (λ (d : Database). d.schema) u.0.now_is ∙ it.schema;
     sound = subst IsDatabase (sym u.0.now_is) it.sound;
     keyed = subst (λ (d : Database). IsKeyed (d.trees 2)) (sym u.0.now_is) it.keyed;
@@ -60,38 +82,104 @@ module _ (old new : State) where
     autocommit = u.0.mode ∙ it.autocommit;
   }
 
-  still_blank : IsUnchanged old new → IsBlank old → IsBlank new
+  pub still_known : IsUnchanged old new → IsFirst old ⊎ IsRecord old → IsFirst new ⊎ IsRecord new
+  still_known u (inl first) = inl (still_first u first)
+  still_known u (inr it) = inr (still_record u it)
+
+  pub still_blank : IsUnchanged old new → IsBlank old → IsBlank new
   still_blank u b = record {
     schema = ap (λ (d : Database). d.schema) u.0.now_is ∙ b.schema;
     settled = u.0.committed_is ∙ b.settled ∙ sym u.0.now_is;
     autocommit = u.0.mode ∙ b.autocommit;
   }
 
-  same_map : IsUnchanged old new → (map : RowMap) → IsMapOf (held old) map → IsMapOf (held new) map
-  same_map u map are key = subst (λ o. AreKeptAs o (map key)) (sym (ap (λ (d : Database). held_in (d.trees 2) key) u.0.now_is)) (are key)
+  same_held : IsUnchanged old new → held new ≡ held old
+  same_held u = ap (λ (d : Database). held_in (d.trees 2)) u.0.now_is
 
-module _ (old mid new : State) (spares : IsBlank old ⊎ IsRecord old → IsUnchanged old mid) where
-  opens_as : OpensAs mid new → OpensAs old new
+  was_migrated : IsUnchanged old new → (map : KeyMap) → IsMigrated new map → IsMigrated old map
+  was_migrated u map it = record {
+    rows = λ key. it.rows key ∙ ap (λ (f : List ℕ → Option Columns). f key) (same_held u);
+    archives = subst (λ (f : List ℕ → Option Columns). AreArchivesOf f map.archives) (same_held u) it.archives;
+  }
+
+module _ (budget : Option ℕ) (old mid new : State) (spares : MayOpen old → IsUnchanged old mid) where
+  opens_as : OpensAs budget mid new → OpensAs budget old new
   opens_as opens = record {
     made = λ blank. opens.made (still_blank old mid (spares (inl blank)) blank);
+    migrated = λ first.
+        let u = spares (inr (inl first)) in
+        let later = opens.migrated (still_first old mid u first) in
+        (later.0, later.1, was_migrated old mid u later.0 later.2, later.3);
     taken = λ it.
-        let u = spares (inr it) in
+        let u = spares (inr (inr it)) in
         let later = opens.taken (still_record old mid u it) in
         (unchanged_then old mid new u later.0, later.1);
+    noted = λ blank. opens.noted (still_blank old mid (spares (inl blank)) blank);
+    renoted = λ first keyed.
+        let u = spares (inr (inl first)) in
+        opens.renoted (still_first old mid u first) (subst (λ (d : Database). IsKeyed (d.trees 0)) (sym u.0.now_is) keyed);
   }
 
-  opens_with : OpensWithRows mid new → OpensWithRows old new
+  opens_with : OpensWithRows budget mid new → OpensWithRows budget old new
   opens_with opens = record {
     made = λ blank. opens.made (still_blank old mid (spares (inl blank)) blank);
-    taken = λ it map are. let u = spares (inr it) in opens.taken (still_record old mid u it) map (same_map old mid u map are);
+    migrated = λ first.
+        let u = spares (inr (inl first)) in
+        let later = opens.migrated (still_first old mid u first) in
+        (later.0, later.1, was_migrated old mid u later.0 later.2, later.3);
+    taken = λ columns it.
+        let is = record_of old columns it in
+        let u = spares (inr (inr is)) in
+        opens.taken columns (unchanged_of old mid columns it u (still_record old mid u is));
   }
+
+-- what is shown of a record that was only looked at
+module _ (old mid new : State) (u : IsUnchanged old mid) where
+  held_before : (key : List ℕ) → held mid key ≡ held old key
+  held_before key = ap (λ (f : List ℕ → Option Columns). f key) (same_held old mid u)
+
+  stands_before : Stands mid new → Stands old new
+  stands_before stands open_now = let s = stands open_now in (s.0 ∙ u.0.now_is, s.1)
+
+  pub shows_before : (ending : Ending) → Shows mid new ending → Shows old new ending
+  shows_before (Rows text) (rows, (all, are, sound, complete, sorted, same, it), is) = (
+    rows,
+    (all, are, λ c there. let k = sound c there in (k.0, sym (held_before k.0) ∙ k.1), λ key c h. complete key c (held_before key ∙ h), sorted, unchanged_then old mid new u same, it),
+    is,
+  )
+  shows_before Input h = h
+  shows_before (Record NoRow) h = h
+  shows_before (Record NotARecord) (key, c, h, unread, same, it) = (key, c, sym (held_before key) ∙ h, unread, unchanged_then old mid new u same, it)
+  shows_before (Record WrongVersion) h = h
+  shows_before (Record (Store e)) h = stands_before h
+  shows_before (Record UsesSpent) h = h
+  shows_before (Record OutOfMemory) h = stands_before h
+
+-- also of one of version 1
+module _ (old mid new : State) (u : IsUnchanged old mid) where
+  sees_before : IsTrue new.is_open → (new.now ≡ mid.now) × IsFirst new → (new.now ≡ old.now) × IsFirst new
+  sees_before open_now s = (s.0 ∙ u.0.now_is, s.1)
+
+  pub first_before : (ending : Ending) → ShowsFirst mid new ending → ShowsFirst old new ending
+  first_before (Rows text) (rows, (all, are, sound, complete, sorted, same, it), is) = (
+    rows,
+    (all, are, λ c there. let k = sound c there in (k.0, sym (held_before old mid new u k.0) ∙ k.1), λ key c h. complete key c (held_before old mid new u key ∙ h), sorted, unchanged_then old mid new u same, it),
+    is,
+  )
+  first_before Input h = h
+  first_before (Record NoRow) h = h
+  first_before (Record NotARecord) (key, c, h, unread, same, it) = (key, c, sym (held_before old mid new u key) ∙ h, unread, unchanged_then old mid new u same, it)
+  first_before (Record WrongVersion) h = h
+  first_before (Record (Store e)) h = λ open_now. sees_before open_now (h open_now)
+  first_before (Record UsesSpent) h = h
+  first_before (Record OutOfMemory) h = λ open_now. sees_before open_now (h open_now)
 
 -- a connection that is opened as a record was open
 module _ {S : Type 0} (g : Ghosts S) where
   was_open : (old new : Held S) → Opens g old new (Ok tt) → IsTrue (state g old).is_open
-  was_open old new (inl h) = absurd (let e = h.1 in cc)
-  was_open old new (inr (at, inl ready, reads)) = ready.1.0.was_open
-  was_open old new (inr (at, inr ready, reads)) = ready.2.0.was_open
+  was_open old new (inl ready) = ready.2.0.was_open
+  was_open old new (inr (inl (at, bare, makes))) = bare.1.0.was_open
+  was_open old new (inr (inr (at, ready, migrates))) = ready.2.0.was_open
 
   abbrev ShutIfDirty : Type 0
   ShutIfDirty = (s : S) → (g.view s).is_clean ≡ false → (g.view s).is_open ≡ false
@@ -104,16 +192,16 @@ module _ {S : Type 0} (g : Ghosts S) where
   ]
 
   module _ (old mid : Held S) (shut : ShutIfDirty) (spares : Spares (state g old) (state g mid)) where
-    was_spared : (new : Held S) → Opens g mid new (Ok tt) → IsBlank (state g old) ⊎ IsRecord (state g old) → IsUnchanged (state g old) (state g mid)
+    was_spared : (new : Held S) → Opens g mid new (Ok tt) → MayOpen (state g old) → IsUnchanged (state g old) (state g mid)
     was_spared new opens = (spares (was_clean shut mid (was_open mid new opens))).1
 
-  module _ {K E : Type 0} (conn_of : K → Held S) (old mid : Held S) (shut : ShutIfDirty) (spares : Spares (state g old) (state g mid)) where
-    pub opens_first : (r : Result K E) → IfOk r (λ kept. HasCleanDisk (state g (conn_of kept)) → Opens g mid (conn_of kept) (Ok tt)) → IfOk r (λ kept. HasCleanDisk (state g (conn_of kept)) → OpensAs (state g mid) (state g (conn_of kept)))
-        → IfOk r (λ kept. HasCleanDisk (state g (conn_of kept)) → OpensAs (state g old) (state g (conn_of kept)))
-    opens_first (Ok kept) opens map = λ clean. opens_as (state g old) (state g mid) (state g (conn_of kept)) (was_spared old mid shut spares (conn_of kept) (opens clean)) (map clean)
+  module _ {K E : Type 0} (budget : Option ℕ) (conn_of : K → Held S) (old mid : Held S) (shut : ShutIfDirty) (spares : Spares (state g old) (state g mid)) where
+    pub opens_first : (r : Result K E) → IfOk r (λ kept. HasCleanDisk (state g (conn_of kept)) → Opens g mid (conn_of kept) (Ok tt)) → IfOk r (λ kept. HasCleanDisk (state g (conn_of kept)) → OpensAs budget (state g mid) (state g (conn_of kept)))
+        → IfOk r (λ kept. HasCleanDisk (state g (conn_of kept)) → OpensAs budget (state g old) (state g (conn_of kept)))
+    opens_first (Ok kept) opens map = λ clean. opens_as budget (state g old) (state g mid) (state g (conn_of kept)) (was_spared old mid shut spares (conn_of kept) (opens clean)) (map clean)
     opens_first (Err e) opens map = tt
 
-    pub rows_first : (r : Result K E) → IfOk r (λ kept. HasCleanDisk (state g (conn_of kept)) → Opens g mid (conn_of kept) (Ok tt)) → IfOk r (λ kept. HasCleanDisk (state g (conn_of kept)) → OpensWithRows (state g mid) (state g (conn_of kept)))
-        → IfOk r (λ kept. HasCleanDisk (state g (conn_of kept)) → OpensWithRows (state g old) (state g (conn_of kept)))
-    rows_first (Ok kept) opens rows = λ clean. opens_with (state g old) (state g mid) (state g (conn_of kept)) (was_spared old mid shut spares (conn_of kept) (opens clean)) (rows clean)
+    pub rows_first : (r : Result K E) → IfOk r (λ kept. HasCleanDisk (state g (conn_of kept)) → Opens g mid (conn_of kept) (Ok tt)) → IfOk r (λ kept. HasCleanDisk (state g (conn_of kept)) → OpensWithRows budget (state g mid) (state g (conn_of kept)))
+        → IfOk r (λ kept. HasCleanDisk (state g (conn_of kept)) → OpensWithRows budget (state g old) (state g (conn_of kept)))
+    rows_first (Ok kept) opens rows = λ clean. opens_with budget (state g old) (state g mid) (state g (conn_of kept)) (was_spared old mid shut spares (conn_of kept) (opens clean)) (rows clean)
     rows_first (Err e) opens rows = tt

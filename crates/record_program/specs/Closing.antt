@@ -8,17 +8,20 @@ use Rattle.sqlite.specs.State.{HasCleanDisk}
 use Rattle.sqlite.specs.Held.{Held}
 use Rattle.sqlite.specs.Files.{over_files, file_state, IsClosed}
 use Rattle.sqlite.specs.Closing.{IsCopied}
-use Rattle.job_record.specs.Map.{IsRecord}
+use Rattle.job_record.specs.declared.changes.Space.{Space}
+use Rattle.job_record.specs.Counted.{FitsSpace}
+use Rattle.job_record.specs.Map.{KeyMap, IsRecordOf}
 use Rattle.record_program.specs.declared.ending.Ending.{Ending}
 use Rattle.record_program.specs.Endings.{status_of}
 use Rattle.record_program.specs.Forgetting.{ForgetsFirst}
 
 module _ {D : Type 0} (g : Ghosts D) where
   -- The files are given back only where the database file alone holds what the command left of the record. Else the command has failed.
-  abbrev pub ForgetsForGood : List ℕ → Held (FileStore D g) → Ending → Option (Files D) → Type 0
-  ForgetsForGood sum old ending (Some files) =
-      AreClean g files.log files.db → HasCleanDisk (file_state old) × (IsRecord (file_state old) → (last : Held (FileStore D g)) × ForgetsFirst over_files old last sum ending × IsCopied last files)
-  ForgetsForGood sum old ending None = status_of ending ≡ 3
+  abbrev pub ForgetsForGood : List ℕ → Space → Held (FileStore D g) → Ending → Option (Files D) → Type 0
+  ForgetsForGood sum space old ending (Some files) =
+      AreClean g files.log files.db → HasCleanDisk (file_state old) × ((map : KeyMap) → FitsSpace space map → IsRecordOf (file_state old) map
+      → (last : Held (FileStore D g)) × ForgetsFirst over_files map last sum ending × IsCopied last files)
+  ForgetsForGood sum space old ending None = status_of ending ≡ 3
 
   -- a close that fails is told in place of rows
   abbrev pub ClosesAs : Held (FileStore D g) → (before after : Ending) → Option (Files D) → Type 0

@@ -18,7 +18,7 @@ pub fn forgotten_for_good<D: Disk + Drop>(
     sum: &str,
 ) -> (Ending, Option<Files<D>>)
     ensures ending { IsEnding result.0 }
-    ensures closes { ForgetsForGood D.Disk sum.now kept.conn result.0 result.1 }
+    ensures closes { ForgetsForGood D.Disk sum.now kept.space kept.conn result.0 result.1 }
 {
     let ending = forgotten(alloc, &mut kept, sum);
     closed(kept.into_connection(), ending)

@@ -1,6 +1,7 @@
 //! The record of a file.
-ghost use Rattle.std.specs.Prelude.{◌≡◌, ℕ, false, List, [], Option, IfOk, option_map};
-ghost use Rattle.record_program.specs.Closing.{Leaves};
+ghost use Rattle.std.specs.Prelude.{◌≡◌, ℕ, false, List, [], Option, None, IfOk, option_map};
+ghost use Rattle.sqlite.specs.Files.{file_state};
+ghost use Rattle.record_program.specs.Closing.{ForgetsForGood, Leaves};
 ghost use Rattle.record_program.specs.Endings.{IsEnding, ShowsNone, Says};
 ghost use Rattle.record_program.specs.Opened.{IsOf, IsRecordOf, IsShown, IsForgotten, EndsWith, EndsOn};
 ghost use Rattle.record_program.specs.declared.ending.Ending.{Ending};
@@ -10,12 +11,13 @@ use crate::databases::Databases;
 use crate::ending::Ending;
 use crate::kept::{FileLeft, FileRecord};
 use crate::look::{Look, looked, looked_if_there, remove_log};
-use crate::store::shown;
+use crate::store::shown_in;
 use crate::tables::as_record;
 use job_record::{JobRecord, RecordFault};
 use job_rows::Record;
 use sqlite::{Connection, File, FileStore};
 use sqlite_disk::Disk;
+use std::alloc::Global;
 use std::io::Write;
 use std::rt::Files as Folder;
 use std::{fs, io, mem};
@@ -31,8 +33,8 @@ pub trait Records {
     /// What a record leaves where it is closed.
     type Left: Drop;
 
-    /// The record was opened of the file of this name: its rows are those that the file had.
-    ghost opens: { Self → List ℕ → Self.Kept → Type 0 };
+    /// The record was opened of the file of this name, with this budget: its rows are those that the file had.
+    ghost opens: { Self → List ℕ → Option ℕ → Self.Kept → Type 0 };
 
     /// `record` may end so on the file of this name, where the rows whose key has this SHA-1 are forgotten first.
     ghost ends: { Self → List ℕ → Option (List ℕ) → Ending → Type 0 };
@@ -46,11 +48,12 @@ pub trait Records {
         ensures ending { IsEnding result }
         ensures whose { ends self.now file.now (option_map (λ sum. sum.now) forget.entry) result };
 
-    /// Opens the record of a file. Makes one where nothing is there, and in a database that has neither of its tables. What is
+    /// Opens the record of a file. The archives may have together at most as many bytes as the budget, if there is one. Makes a record
+    /// where nothing is there, and in a database that has none of its tables, and one of version 2 of one of version 1. What is
     /// refused keeps every byte. No other process can open it until it is closed.
-    fn open_record(&self, file: &str) -> Result<Self::Kept, RecordFault>
+    fn open_record(&self, file: &str, budget: Option<u64>) -> Result<Self::Kept, RecordFault>
         ensures log { IfOk result (λ kept. Self.Kept.log kept ≡ []) }
-        ensures whose { IfOk result (opens self.now file.now) };
+        ensures whose { IfOk result (opens self.now file.now budget) };
 
     /// Closes a record in good order, so that the file alone holds it. Where that can't be done its log stays beside the file,
     /// and no row is lost.
@@ -63,7 +66,7 @@ impl Records for HostRuntime {
 
     type Left = FileLeft;
 
-    ghost opens = { λ rt file kept. IsRecordOf ⟦<File as Disk>⟧ (⟦<HostRuntime as Databases>⟧.opens rt file) kept.rows.conn };
+    ghost opens = { λ rt file budget kept. IsRecordOf ⟦<File as Disk>⟧ (⟦<HostRuntime as Databases>⟧.opens rt file) budget kept.rows.conn };
 
     ghost ends = { λ rt file forget ending. EndsOn ⟦<File as Disk>⟧ (⟦<HostRuntime as Databases>⟧.opens rt file) forget ending };
 
@@ -73,8 +76,8 @@ impl Records for HostRuntime {
         ending_of(self, file, forget)
     }
 
-    fn open_record(&self, file: &str) -> Result<FileRecord, RecordFault> {
-        match opened(self, file) {
+    fn open_record(&self, file: &str, budget: Option<u64>) -> Result<FileRecord, RecordFault> {
+        match opened(self, file, budget) {
             Ok(rows) => Ok(FileRecord { rows }),
             Err(fault) => Err(fault),
         }
@@ -108,35 +111,50 @@ pub fn main_run<R: Records, O: Write, E: Write>(
     }
 }
 
-// A file that is absent, or has no byte, is made a record, and so is a database with neither table.
+// A file that is absent, or has no byte, is made a record, and so is a database with none of the tables.
 fn opened<R: AllocGlobal + Folder + Databases>(
     rt: &R,
     file: &str,
+    budget: Option<u64>,
 ) -> Result<JobRecord<FileStore<R::Medium>>, RecordFault>
     ensures log { IfOk result (λ kept. kept.log.items ≡ []) }
     ensures whose { IfOk result (λ kept. IsRecordOf R.Medium.Disk (R.opens rt.now file.now)
-        kept.conn) }
+        budget kept.conn) }
 {
     match looked_if_there(rt, file) {
-        Ok(Some(look)) => opened_at(rt, file, look.new_log(), true),
-        Ok(None) => opened_at(rt, file, None, true),
+        Ok(Some(look)) => opened_at(rt, file, look.new_log(), budget),
+        Ok(None) => opened_at(rt, file, None, budget),
+        Err(fault) => Err(fault),
+    }
+}
+
+fn opened_at<R: AllocGlobal + Folder + Databases>(
+    rt: &R,
+    file: &str,
+    new_log: Option<&str>,
+    budget: Option<u64>,
+) -> Result<JobRecord<FileStore<R::Medium>>, RecordFault>
+    ensures log { IfOk result (λ kept. kept.log.items ≡ []) }
+    ensures whose { IfOk result (λ kept. IsRecordOf R.Medium.Disk (R.opens rt.now file.now)
+        budget kept.conn) }
+{
+    match database_of(rt, file, new_log) {
+        Ok(conn) => opened_in(rt, conn, new_log, budget, true),
         Err(fault) => Err(fault),
     }
 }
 
 // Where this is refused, the log that it made is removed again.
-fn opened_at<R: AllocGlobal + Folder + Databases>(
+fn database_of<R: AllocGlobal + Folder + Databases>(
     rt: &R,
     file: &str,
     new_log: Option<&str>,
-    makes: bool,
-) -> Result<JobRecord<FileStore<R::Medium>>, RecordFault>
-    ensures log { IfOk result (λ kept. kept.log.items ≡ []) }
-    ensures whose { IfOk result (λ kept. IsRecordOf R.Medium.Disk (R.opens rt.now file.now)
-        kept.conn) }
+) -> Result<Connection<FileStore<R::Medium>>, RecordFault>
+    ensures opened { IfOk result (λ conn. R.opens rt.now file.now (file_state conn)) }
+    ensures settled { IfOk result (λ conn. conn.in_transaction ≡ false) }
 {
     match rt.open_database(file) {
-        Ok(conn) => opened_in(rt, conn, new_log, makes),
+        Ok(conn) => Ok(conn),
         Err((error, None)) => Err(RecordFault::Store(error)),
         Err((error, Some(left))) => {
             remove_log(rt, new_log);
@@ -151,13 +169,16 @@ fn opened_in<F: AllocGlobal + Folder, D: Disk + Drop>(
     rt: &F,
     conn: Connection<FileStore<D>>,
     new_log: Option<&str>,
+    budget: Option<u64>,
     makes: bool,
 ) -> Result<JobRecord<FileStore<D>>, RecordFault>
     requires { conn.in_transaction ≡ false }
     ensures log { IfOk result (λ kept. kept.log.items ≡ []) }
-    ensures of { IfOk result (λ kept. IsOf D.Disk conn kept.conn) }
+    ensures space { IfOk result
+        (λ kept. kept.space ≡ record { budget = budget; counted = None }) }
+    ensures of { IfOk result (λ kept. IsOf D.Disk budget conn kept.conn) }
 {
-    match as_record(rt.alloc(), conn, makes) {
+    match as_record(rt.alloc(), conn, budget, makes) {
         Ok(record) => Ok(record),
         Err((fault, conn)) => {
             remove_log(rt, new_log);
@@ -220,51 +241,65 @@ fn in_look<R: AllocGlobal + Folder + Databases>(
     if look.is_empty() {
         return Ending::Record(RecordFault::NotARecord);
     }
-    match opened_at(rt, file, look.new_log(), false) {
-        Ok(record) => in_record(rt, record, look, forget),
+    match database_of(rt, file, look.new_log()) {
+        Ok(conn) => in_database(rt, conn, look, forget),
         Err(fault) => Ending::Record(fault),
     }
 }
 
-fn in_record<F: AllocGlobal + Folder, D: Disk + Drop>(
+fn in_database<F: AllocGlobal + Folder, D: Disk + Drop>(
     rt: &F,
-    kept: JobRecord<FileStore<D>>,
+    conn: Connection<FileStore<D>>,
     look: &Look,
     forget: Option<&str>,
 ) -> Ending
+    requires { conn.in_transaction ≡ false }
     ensures ending { IsEnding result }
-    ensures ends { EndsWith D.Disk kept.conn (option_map (λ sum. sum.now) forget.entry) result }
+    ensures ends { EndsWith D.Disk conn (option_map (λ sum. sum.now) forget.entry) result }
 {
     match forget {
-        Some(sum) => without_rows(rt, kept, sum),
-        None => only_shown(rt, kept, look.new_log()),
+        Some(sum) => without_rows(rt, conn, look.new_log(), sum),
+        None => only_shown(rt, conn, look.new_log()),
     }
 }
 
-// The file is not written: the record is let go and not closed, so its log stays beside it, and one that was made is removed.
+// The file is not written: it is let go and not closed, so its log stays beside it, and one that was made is removed.
 fn only_shown<F: AllocGlobal + Folder, D: Disk + Drop>(
     rt: &F,
-    mut kept: JobRecord<FileStore<D>>,
+    mut conn: Connection<FileStore<D>>,
     new_log: Option<&str>,
 ) -> Ending
     ensures ending { IsEnding result }
-    ensures shown { IsShown D.Disk kept.conn result }
+    ensures shown { IsShown D.Disk conn result }
 {
-    let ending = shown(rt.alloc(), &mut kept);
+    let ending = shown_in(rt.alloc(), &mut conn);
     remove_log(rt, new_log);
-    mem::drop(kept);
+    mem::drop(conn);
     ending
 }
 
+// What is forgotten leaves room and takes none, so the archives have no budget.
 fn without_rows<F: AllocGlobal + Folder, D: Disk + Drop>(
     rt: &F,
-    kept: JobRecord<FileStore<D>>,
+    conn: Connection<FileStore<D>>,
+    new_log: Option<&str>,
     sum: &str,
 ) -> Ending
+    requires { conn.in_transaction ≡ false }
     ensures ending { IsEnding result }
-    ensures forgotten { IsForgotten D.Disk sum.now kept.conn result }
+    ensures forgotten { IsForgotten D.Disk sum.now conn result }
 {
-    let (ending, files) = forgotten_for_good(rt.alloc(), kept, sum);
+    match opened_in(rt, conn, new_log, None, false) {
+        Ok(kept) => forgotten_in(rt.alloc(), kept, sum),
+        Err(fault) => Ending::Record(fault),
+    }
+}
+
+fn forgotten_in<D: Disk + Drop>(alloc: Global, kept: JobRecord<FileStore<D>>, sum: &str) -> Ending
+    ensures ending { IsEnding result }
+    ensures closes { (files : _) × ForgetsForGood D.Disk sum.now kept.space kept.conn result files }
+{
+    let (ending, files) = forgotten_for_good(alloc, kept, sum);
     mem::drop(files);
     ending
 }

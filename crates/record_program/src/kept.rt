@@ -2,11 +2,11 @@
 ghost use Rattle.std.specs.Prelude.{◌≡◌};
 ghost use Rattle.sqlite.specs.Files.{file_state};
 ghost use Rattle.sqlite.specs.State.{HasCleanDisk};
-ghost use Rattle.job_record.specs.Rows.{HoldsRows};
+ghost use Rattle.job_record.specs.Rows.{HoldsWithin};
 
 use job_record::JobRecord;
 use job_rows::{Record, RecordError, Row};
-use plain_data::Text;
+use plain_data::{Items, Text};
 use sqlite::{Connection, File, FileStore, Files};
 
 /// The record of a file. It is a type with no parameter, so that a caller does not prove again what each of its parts is.
@@ -35,14 +35,18 @@ impl Record for FileRecord {
 
     ghost is_sound = { λ kept. HasCleanDisk (file_state kept.rows.conn) };
 
-    ghost holds = { λ kept map. HoldsRows (file_state kept.rows.conn) map };
+    ghost holds = { λ kept map. HoldsWithin (file_state kept.rows.conn) kept.rows.space map };
 
     fn find(&mut self, key: &Text) -> Result<Option<Row>, RecordError> {
         Record::find(&mut self.rows, key)
     }
 
-    fn put(&mut self, row: &Row) -> Result<(), RecordError> {
+    fn put(&mut self, row: &Row) -> Result<Items<Text>, RecordError> {
         Record::put(&mut self.rows, row)
+    }
+
+    fn touch(&mut self, key: &Text) -> Result<(), RecordError> {
+        Record::touch(&mut self.rows, key)
     }
 
     fn drop_archive(&mut self, key: &Text) -> Result<(), RecordError> {

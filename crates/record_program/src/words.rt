@@ -9,14 +9,17 @@ pub fn fault_words(alloc: Global, fault: RecordFault) -> Result<String, AllocErr
     match fault {
         RecordFault::NotARecord => String::from_str(
             alloc,
-            "this is no record of jobs, or one of its rows can't be read: a record is a database with the tables meta and job, pages of 4096 bytes, texts in UTF-8, no auto_vacuum and 64 GiB at most",
+            "this is no record of jobs, or one of its rows can't be read: a record is a database with the tables meta, job and archive, pages of 4096 bytes, texts in UTF-8, no auto_vacuum and 64 GiB at most",
         ),
         RecordFault::WrongVersion => String::from_str(
             alloc,
-            "this record has another version than 1, which is read here",
+            "this record has another version than 1 and 2, which are read here",
         ),
         RecordFault::NoRow => String::from_str(alloc, "no row has this key"),
         RecordFault::Store(error) => store_words(alloc, error),
+        RecordFault::UsesSpent => {
+            String::from_str(alloc, "no number is left for the next use of an archive")
+        }
         RecordFault::OutOfMemory => String::from_str(alloc, "out of memory"),
     }
 }

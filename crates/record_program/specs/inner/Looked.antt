@@ -2,8 +2,12 @@
 use Rattle.std.specs.Prelude.{◌⊎◌}
 use Rattle.sqlite.specs.State.{State, HasCleanDisk, IsUnchanged}
 use Rattle.job_record.specs.Map.{IsRecord}
-use Rattle.job_record.specs.OpenMap.{IsBlank}
+use Rattle.job_record.specs.OpenMap.{IsBlank, IsFirst}
 
--- a record, and a database with no table, are as they were
+-- a record of either version, or a database with no table
+abbrev pub MayOpen : State → Type 0
+MayOpen s = IsBlank s ⊎ (IsFirst s ⊎ IsRecord s)
+
+-- is as it was
 abbrev pub Spares : State → State → Type 0
-Spares old new = HasCleanDisk new → HasCleanDisk old × (IsBlank old ⊎ IsRecord old → IsUnchanged old new)
+Spares old new = HasCleanDisk new → HasCleanDisk old × (MayOpen old → IsUnchanged old new)

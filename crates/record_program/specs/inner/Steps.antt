@@ -1,13 +1,15 @@
 -- The steps of `--forget`: the keys with the sum are picked, and each is forgotten.
-use Rattle.std.specs.Prelude.{◌≡◌, ◌≢◌, ◌⊎◌, ℕ, List, [], Some, None, Result, Ok, Err, IsTrue}
+use Rattle.std.specs.Prelude.{◌≡◌, ◌≢◌, ℕ, List, [], Some, Result, Ok, Err, IsTrue}
 use Rattle.sqlite.specs.Order.{Row as Columns}
 use Rattle.sqlite.specs.State.{State}
 use Rattle.sqlite_rules.specs.Lists.{Has}
+use Rattle.job_record.specs.declared.changes.Space.{Space}
 use Rattle.job_record.specs.declared.fault.RecordFault.{RecordFault}
-use Rattle.job_record.specs.declared.fault.RecordFault.TheVariants.{NotARecord, WrongVersion, NoRow, Store, OutOfMemory}
-use Rattle.job_record.specs.Map.{held, IsRecord, Sets, Stands}
+use Rattle.job_record.specs.declared.fault.RecordFault.TheVariants.{NotARecord, WrongVersion, NoRow, Store, UsesSpent, OutOfMemory}
+use Rattle.job_record.specs.Counted.{FitsSpace}
+use Rattle.job_record.specs.Map.{KeyMap, IsRecordOf, changed_by, forgets}
 use Rattle.record_program.specs.Lines.{has_sum, keys_with}
-use Rattle.record_program.specs.Forgetting.{HasMap, HasRowWith, HasOddKey, LacksAtMost}
+use Rattle.record_program.specs.Forgetting.{HasRowWith, HasOddKey, LacksAtMost, forgotten}
 
 -- those of the keys that have the sum; R3 says that there is none
 abbrev pub PicksOf : List ℕ → List (List ℕ) → Result (List (List ℕ)) RecordFault → Type 0
@@ -20,29 +22,31 @@ abbrev pub Picks : List ℕ → (all result : Result (List (List ℕ)) RecordFau
 Picks sum (Ok all) result = PicksOf sum all result
 Picks sum (Err fault) result = result ≡ Err fault
 
+-- the record is as it was, unless a failure of the store has shut it
+abbrev pub StaysOf : KeyMap → State → Type 0
+StaysOf map new = IsTrue new.is_open → IsRecordOf new map
+
 -- the keys of the record that have the sum
-abbrev pub HoldsKeys : List ℕ → State → State → Result (List (List ℕ)) RecordFault → Type 0
-HoldsKeys sum old new (Ok keys) =
-    HasRowWith sum old × HasMap new (held old) × ((key : List ℕ) → Has keys key → IsTrue (has_sum sum key)) × ((key : List ℕ) (c : Columns) → held old key ≡ Some c → IsTrue (has_sum sum key) → Has keys key)
-HoldsKeys sum old new (Err NoRow) = (¬ HasRowWith sum old) × HasMap new (held old)
-HoldsKeys sum old new (Err NotARecord) = HasOddKey old × HasMap new (held old)
-HoldsKeys sum old new (Err WrongVersion) = ⊥
-HoldsKeys sum old new (Err fault) = Stands old new
+abbrev pub HoldsKeys : List ℕ → KeyMap → State → Result (List (List ℕ)) RecordFault → Type 0
+HoldsKeys sum map new (Ok keys) =
+    HasRowWith sum map × IsRecordOf new map × ((key : List ℕ) → Has keys key → IsTrue (has_sum sum key)) × ((key : List ℕ) (c : Columns) → map.rows key ≡ Some c → IsTrue (has_sum sum key) → Has keys key)
+HoldsKeys sum map new (Err NoRow) = (¬ HasRowWith sum map) × IsRecordOf new map
+HoldsKeys sum map new (Err NotARecord) = HasOddKey map × IsRecordOf new map
+HoldsKeys sum map new (Err WrongVersion) = ⊥
+HoldsKeys sum map new (Err (Store e)) = StaysOf map new
+HoldsKeys sum map new (Err UsesSpent) = ⊥
+HoldsKeys sum map new (Err OutOfMemory) = StaysOf map new
 
 -- the key has no row any more
-abbrev pub ForgetsOne : List ℕ → State → State → Result (Unit {0}) RecordFault → Type 0
-ForgetsOne key old new (Ok done) = Sets old new key None × IsRecord new
-ForgetsOne key old new (Err (Store e)) = Stands old new
-ForgetsOne key old new (Err OutOfMemory) = Stands old new
-ForgetsOne key old new (Err fault) = ⊥
+abbrev pub ForgetsOne : List ℕ → KeyMap → Space → State → Result (Unit {0}) RecordFault → Type 0
+ForgetsOne key map space new (Ok done) = IsRecordOf new (changed_by (forgets key) map) × FitsSpace space (changed_by (forgets key) map)
+ForgetsOne key map space new (Err (Store e)) = StaysOf map new
+ForgetsOne key map space new (Err OutOfMemory) = StaysOf map new
+ForgetsOne key map space new (Err fault) = ⊥
 
 -- these keys have no row any more
-abbrev pub HasForgotten : List ℕ → List (List ℕ) → State → State → Type 0
-HasForgotten sum keys old new =
-    IsRecord new × ((key : List ℕ) → (held new key ≡ held old key) ⊎ (IsTrue (has_sum sum key) × (held new key ≡ None))) × ((key : List ℕ) → Has keys key → held new key ≡ None)
-
-abbrev pub ForgetsAll : List ℕ → List (List ℕ) → State → State → Result (Unit {0}) RecordFault → Type 0
-ForgetsAll sum keys old new (Ok done) = HasForgotten sum keys old new
-ForgetsAll sum keys old new (Err (Store e)) = LacksAtMost sum old new
-ForgetsAll sum keys old new (Err OutOfMemory) = LacksAtMost sum old new
-ForgetsAll sum keys old new (Err fault) = ⊥
+abbrev pub ForgetsAll : List ℕ → List (List ℕ) → KeyMap → State → Result (Unit {0}) RecordFault → Type 0
+ForgetsAll sum keys map new (Ok done) = IsRecordOf new (forgotten keys map)
+ForgetsAll sum keys map new (Err (Store e)) = LacksAtMost sum map new
+ForgetsAll sum keys map new (Err OutOfMemory) = LacksAtMost sum map new
+ForgetsAll sum keys map new (Err fault) = ⊥

@@ -4,8 +4,8 @@ use Rattle.cwl_program.proofs.run_record.in_file.Goals as goal
 
 pub returns-in-Ok-clause-end : goal.returns-in-Ok-clause-end
 returns-in-Ok-clause-end g c =
-    over_file g.R.Records g.R.Kept.Record c.args.rt.now (wish_of_run c.args.call.now.words.now) c.args.call.now.path.now c.args.file.now _ _ _ _
-    c.requires.file c.in-Ok.ensures.whose c.in-Ok.ensures.log c.on_disk-end.ensures.end c.close_record-left.ensures
+    over_file g.R.Records g.R.Kept.Record c.args.rt.now (wish_of_run c.args.call.now.words.now) c.args.call.now.path.now c.args.file.now _ _ _ _ _
+    c.requires.file c.budget_of.ensures c.in-Ok.ensures.whose c.in-Ok.ensures.log c.on_disk-end.ensures.end c.close_record-left.ensures
 
 pub returns-in-Err-clause-end : goal.returns-in-Err-clause-end
 returns-in-Err-clause-end g c =

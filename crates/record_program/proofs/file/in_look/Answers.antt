@@ -2,4 +2,4 @@ use Rattle.record_program.specs.Opened.{shown}
 use Rattle.record_program.proofs.file.in_look.Goals as goal
 
 pub returns-in-Ok-clause-whose : goal.returns-in-Ok-clause-whose
-returns-in-Ok-clause-whose g c = shown _ c.in-Ok.ensures.whose c.in_record.ensures.ends
+returns-in-Ok-clause-whose g c = shown c.in-Ok.conn c.in-Ok.ensures.opened c.in_database.ensures.ends
