@@ -106,18 +106,19 @@ pub fn answer_next(
         Request::Host(place, request) => {
             Ok(Answer::Host(answer_to(alloc, place, request, flying, chance)?))
         }
-        Request::Record(_, request) => Ok(Answer::Record(told(request))),
+        Request::Record(_, request) => Ok(Answer::Record(told(alloc, request))),
         Request::Finished => unreachable!(),
     }
 }
 
 /// What a record without a row tells.
-fn told(request: &RecordRequest) -> RecordAnswer
+fn told(alloc: Global, request: &RecordRequest) -> RecordAnswer
     ensures { CanTell request.now result }
 {
     match request {
         RecordRequest::Find(_) => RecordAnswer::Found(None),
-        RecordRequest::Put(_) => RecordAnswer::Done,
+        RecordRequest::Put(_) => RecordAnswer::Put(Items::new(alloc)),
+        RecordRequest::Touch(_) => RecordAnswer::Done,
         RecordRequest::DropArchive(_) => RecordAnswer::Done,
     }
 }
@@ -150,6 +151,7 @@ pub fn answer_to(
         HostRequest::Fetch(_, _, _) => Ok(HostAnswer::Fetched(Items::new(alloc))),
         HostRequest::Store(_, _, _) => Ok(HostAnswer::Done),
         HostRequest::Deliver(_) => Ok(HostAnswer::Done),
+        HostRequest::Discard(_) => Ok(HostAnswer::Done),
     }
 }
 

@@ -10,6 +10,8 @@ pub struct Came {
     done: usize,
     /// How many Puts were refused.
     refused: usize,
+    /// How many Touches were refused.
+    refused_touches: usize,
     /// Whether a Find was refused.
     refused_find: bool,
     /// Whether the run ended as these answers say, and no Put was done after one that was refused.
@@ -20,6 +22,7 @@ pub struct Came {
 pub const UNASKED: Came = Came {
     done: 0,
     refused: 0,
+    refused_touches: 0,
     refused_find: false,
     ends_as_told: true,
 };
@@ -27,7 +30,7 @@ pub const UNASKED: Came = Came {
 impl Came {
     /// Whether nothing was refused, and the run ended so.
     pub fn is_whole(self) -> bool {
-        self.ends_as_told && self.refused == 0 && !self.refused_find
+        self.ends_as_told && self.noted() == 0 && !self.refused_find
     }
 
     pub fn has_refused_find(self) -> bool {
@@ -36,6 +39,15 @@ impl Came {
 
     pub fn has_refused_put_alone(self) -> bool {
         self.refused > 0 && !self.refused_find
+    }
+
+    pub fn has_refused_touch_alone(self) -> bool {
+        self.refused_touches > 0 && !self.refused_find
+    }
+
+    // How many refusals are notes.
+    fn noted(self) -> usize {
+        self.refused.saturating_add(self.refused_touches)
     }
 
     /// Whether the record has to hold a row: that of a Put that was done, or one that was there before.
@@ -62,6 +74,10 @@ impl Came {
                 refused: self.refused.saturating_add(1),
                 ..self
             },
+            (Command::Touch, false) => Came {
+                refused_touches: self.refused_touches.saturating_add(1),
+                ..self
+            },
             (Command::Find, false) => Came {
                 refused_find: true,
                 ..self
@@ -85,24 +101,31 @@ pub fn came_of(log: &[Entry], end: &Result<Report, RunFault>) -> Came {
 
 fn ends_so(end: &Result<Report, RunFault>, came: Came) -> bool {
     match end {
-        Ok(report) => !came.refused_find && succeeds(report, came.refused),
+        Ok(report) => !came.refused_find && succeeds(report, came.noted()),
         Err(RunFault::Record(RecordRefusal::Store)) => came.refused_find,
         Err(_) => false,
     }
 }
 
-/// Whether a run succeeded with so many notes, each of a Put that the store refused.
+/// Whether a run succeeded with so many notes, each of a Put or a Touch that the store refused.
 fn succeeds(report: &Report, refused: usize) -> bool {
     matches!(report.outcome, Outcome::Success(_))
         && report.notes.len() == refused
-        && are_refused_puts(report.notes.as_slice())
+        && are_refusals(report.notes.as_slice())
 }
 
-fn are_refused_puts(notes: &[Note]) -> bool {
+fn are_refusals(notes: &[Note]) -> bool {
     for note in notes {
-        if !matches!(note.kind, NoteKind::Put(RecordRefusal::Store)) {
+        if !is_refusal(&note.kind) {
             return false;
         }
     }
     true
+}
+
+fn is_refusal(kind: &NoteKind) -> bool {
+    matches!(
+        kind,
+        NoteKind::Put(RecordRefusal::Store) | NoteKind::Touch(RecordRefusal::Store)
+    )
 }

@@ -17,7 +17,7 @@ pub fn put_answer(
     out: &mut AnswerText,
 ) -> Result<(), RowFault> {
     let runs = row.natural("runs")?;
-    let mut rows = MemoryRecord::new(alloc);
+    let mut rows = MemoryRecord::new(alloc, None);
     let put = put_runs(alloc, row, case, &mut rows, runs, out);
     mem::drop(rows);
     put

@@ -134,7 +134,7 @@ fn is_as(again: &Ended, whole: &Ended) -> bool {
 /// A run over a new record and archive whose host fails the call after so many, or none, and the run after it.
 fn both_runs(trial: &Trial<'_>, left: Option<u64>) -> Result<Tried, RowFault> {
     archive_made(trial)?;
-    let mut rows = MemoryRecord::new(trial.rt.alloc());
+    let mut rows = MemoryRecord::new(trial.rt.alloc(), None);
     let tried = tried_over(trial, left, &mut rows);
     mem::drop(rows);
     match done(fs::remove_dir_all(trial.rt, trial.folder)) {

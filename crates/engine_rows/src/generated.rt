@@ -10,7 +10,7 @@ use crate::generator::row_of;
 use crate::run::{Case, case_of, core_of};
 use cwl_value::JobPlace;
 use job_rows::{MemoryRecord, Record, Row as Kept};
-use plain_data::Text;
+use plain_data::{Items, Text};
 use plan_checker::{Charges, Graph, Plan, check, read_certificate, write_certificate};
 use proc_host::{HostAnswer, HostRequest};
 use row_io::{AnswerText, Row, RowFault};
@@ -68,7 +68,7 @@ fn seen_at(alloc: Global, number: u64) -> Result<Seen, RowFault> {
 
 fn seen_of(alloc: Global, row: &Row, chance: &mut Chance) -> Result<Seen, RowFault> {
     let case = case_of(alloc, row)?;
-    let mut rows = MemoryRecord::new(alloc);
+    let mut rows = MemoryRecord::new(alloc, None);
     let seen = seen_twice(alloc, row, &case, chance, &mut rows);
     mem::drop(case);
     mem::drop(rows);
@@ -262,7 +262,11 @@ fn told(
     match request {
         RecordRequest::Find(key) => Ok(RecordAnswer::Found(found_in(rows, key))),
         RecordRequest::Put(row) => {
-            keep(alloc, row, chance, rows, keeps)?;
+            let gone = keep(alloc, row, chance, rows, keeps)?;
+            Ok(RecordAnswer::Put(gone))
+        }
+        RecordRequest::Touch(key) => {
+            let _touched = rows.touch(key);
             Ok(RecordAnswer::Done)
         }
         RecordRequest::DropArchive(key) => {
@@ -285,13 +289,14 @@ fn found_in(rows: &mut MemoryRecord, key: &Text) -> Option<Kept>
 /// A cost above that of any fetch of what a job leaves: that is less than a million bytes.
 const DEAR: u64 = 100;
 
+// The keys that are without their archive by what is put of the row.
 fn keep<K: Record>(
     alloc: Global,
     row: &Kept,
     chance: &mut Chance,
     rows: &mut K,
     keeps: Keeps,
-) -> Result<(), AllocError> {
+) -> Result<Items<Text>, AllocError> {
     match keeps {
         Keeps::All => keep_at(alloc, row, DEAR, row.archived, rows),
         Keeps::Most => keep_some(alloc, row, chance, rows),
@@ -303,9 +308,9 @@ fn keep_some<K: Record>(
     row: &Kept,
     chance: &mut Chance,
     rows: &mut K,
-) -> Result<(), AllocError> {
+) -> Result<Items<Text>, AllocError> {
     if chance.below(5) == 0 {
-        return Ok(());
+        return Ok(Items::new(alloc));
     }
     let cost = 1 + chance.below(12);
     let archived = chance.below(4) > 0;
@@ -318,11 +323,14 @@ fn keep_at<K: Record>(
     cost: u64,
     archived: bool,
     rows: &mut K,
-) -> Result<(), AllocError> {
+) -> Result<Items<Text>, AllocError> {
     let mut kept = row.clone_in(alloc)?;
     kept.cost = cost;
     kept.archived = archived;
-    let _put = rows.put(&kept);
+    let put = rows.put(&kept);
     mem::drop(kept);
-    Ok(())
+    match put {
+        Ok(gone) => Ok(gone),
+        Err(_) => Ok(Items::new(alloc)),
+    }
 }

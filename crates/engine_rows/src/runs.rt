@@ -9,6 +9,7 @@ use host_rows::script::host_by;
 use job_rows::{Command, Entry, MemoryRecord, Record, RecordError, Row as Kept};
 use plain_data::{Items, Text};
 use proc_host::Scripted;
+use record_rows::rows::budget_of;
 use row_io::{AnswerText, Row, RowFault, json_text};
 use run_core::{Note, NoteKind, PlanNote, Report, RunFault};
 use serde_json::Value as Json;
@@ -29,9 +30,9 @@ enum Told {
 }
 
 /// Writes what the calls `run`, `run_again`, `run_archiving` and `runs` answer: of one run or several over one record, which is
-/// empty before.
+/// empty before, and has the row's budget.
 pub fn put_answer(alloc: Global, row: &Row, out: &mut AnswerText) -> Result<(), RowFault> {
-    let mut rows = MemoryRecord::new(alloc);
+    let mut rows = MemoryRecord::new(alloc, budget_of(row)?);
     let put = put_over(alloc, row, &mut rows, out);
     mem::drop(rows);
     put
@@ -238,8 +239,10 @@ fn put_notes(alloc: Global, out: &mut AnswerText, notes: &[Note]) {
 pub fn failure_of(kind: &NoteKind) -> (&'static str, &'static str) {
     match kind {
         NoteKind::Put(refusal) => ("Put", refusal.code()),
+        NoteKind::Touch(refusal) => ("Touch", refusal.code()),
         NoteKind::Drop(refusal) => ("Drop", refusal.code()),
         NoteKind::Store(fault) => ("Store", fault.code()),
+        NoteKind::Discard(fault) => ("Discard", fault.code()),
         NoteKind::Late(fault) => ("Late", fault.code()),
     }
 }
@@ -264,6 +267,7 @@ fn name_of(command: Command) -> &'static str {
     match command {
         Command::Find => "Find",
         Command::Put => "Put",
+        Command::Touch => "Touch",
         Command::DropArchive => "DropArchive",
         Command::Forget => "Forget",
     }

@@ -47,15 +47,16 @@ struct Left {
 struct Seen {
     find: bool,
     put: bool,
+    touch: bool,
     other: u64,
     less: u64,
     more: u64,
 }
 
 /// Writes what comes of a run of the row's document, by its script, that is stopped at each call of its record's log and of its record's
-/// database. `find` says that there were stops at which a Find was refused, and `put` that there were some at which a Put was
-/// refused and the run succeeded. `other` counts the runs that did not end as the answers of their record say: a refused Find ends a run by
-/// R4, each refused Put is a note, and no Put is done after one that was refused. `less` counts the records that lack, once they are opened again, a
+/// database. `find` says that there were stops at which a Find was refused, `put` and `touch` that there were some at which a Put, or a
+/// Touch, was refused and the run succeeded. `other` counts the runs that did not end as the answers of their record say: a refused Find ends
+/// a run by R4, each refused Put and Touch is a note, and no Put is done after one that was refused. `less` counts the records that lack, once they are opened again, a
 /// row that was there before or whose Put was answered done; `more` those that hold a row beside these and that of the first refused Put.
 /// With `power_cut` the machine goes down with the program. A script `before` is that of a run that comes before, and is not stopped.
 pub fn put_answer(
@@ -91,6 +92,8 @@ fn put_seen(out: &mut AnswerText, seen: Seen) {
     out.put_flag(seen.find);
     out.put(",\"put\":");
     out.put_flag(seen.put);
+    out.put(",\"touch\":");
+    out.put_flag(seen.touch);
     out.put(",\"other\":");
     out.put_natural(seen.other);
     out.put(",\"less\":");
@@ -115,7 +118,7 @@ fn start_of(alloc: Global, row: &Row, case: &Case) -> Result<Disks, RowFault> {
 }
 
 fn opened(alloc: Global, disks: Disks) -> Result<Store, RowFault> {
-    match disks.open(alloc) {
+    match disks.open(alloc, None) {
         Ok(store) => Ok(store),
         Err((_fault, left)) => {
             mem::drop(left);
@@ -206,6 +209,7 @@ fn seen_by(trial: &Trial<'_>) -> Result<Seen, RowFault> {
     let nothing = Seen {
         find: false,
         put: false,
+        touch: false,
         other: 0,
         less: 0,
         more: 0,
@@ -230,6 +234,7 @@ fn seen_with(seen: Seen, came: Came, left: Left) -> Seen {
     Seen {
         find: seen.find || came.has_refused_find(),
         put: seen.put || came.has_refused_put_alone(),
+        touch: seen.touch || came.has_refused_touch_alone(),
         other: seen.other.saturating_add(u64::from(!came.ends_as_told)),
         less: seen.less.saturating_add(u64::from(left.less)),
         more: seen.more.saturating_add(u64::from(left.more)),
@@ -255,7 +260,7 @@ fn stopped(trial: &Trial<'_>, stop: Stop) -> Result<Option<(Came, Left)>, RowFau
 
 /// Runs over the record in the files, where it opens, and gives them back.
 fn run_on(trial: &Trial<'_>, disks: Disks) -> (Result<Came, RowFault>, Disks) {
-    match disks.open(trial.alloc) {
+    match disks.open(trial.alloc, None) {
         Ok(store) => run_over(trial, store),
         Err((_fault, left)) => (Ok(UNASKED), left),
     }

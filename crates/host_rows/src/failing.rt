@@ -157,6 +157,15 @@ where
         Err(lose(&mut self.lost, self.loss, at, request, HostFault::Deliver))
     }
 
+    fn discard(&mut self, key: &Text) -> Result<(), HostError> {
+        if !is_due(&mut self.left) {
+            return self.inner.discard(key);
+        }
+        let request = HostRequest::Discard(key.copied(self.alloc)?);
+        let at = self.inner.log().len();
+        Err(lose(&mut self.lost, self.loss, at, request, HostFault::Discard))
+    }
+
     fn close(&mut self, ticket: Ticket) {
         self.inner.close(ticket)
     }

@@ -16,8 +16,8 @@ use std::alloc::{AllocError, Global};
 use std::mem;
 
 /// Writes what a scripted host answers to the row's calls, one after the other: `measure`, `stage`, `start`, `collect`, `scan`,
-/// `head` (of three bytes at most), `fetch` and `store` (both of the row's `files`), `deliver`, and `close` for the ticket that was
-/// started last.
+/// `head` (of three bytes at most), `fetch` and `store` (both of the row's `files`), `deliver`, `discard`, and `close` for the ticket
+/// that was started last.
 pub fn put_answer(alloc: Global, row: &Row, out: &mut AnswerText) -> Result<(), RowFault> {
     let mut host = host_by(alloc, row, "script")?;
     let mut held = Vec::new(alloc);
@@ -89,6 +89,10 @@ fn put_call<H: Host>(
         }
         "fetch" => put_fetch(alloc, row, host, out),
         "store" => put_store(alloc, row, host, out),
+        "discard" => {
+            put_done(host.discard(&Text::from_text(alloc, "k")?), out);
+            Ok(())
+        }
         "close" => put_closed(host, held, out),
         _ => Err(RowFault::BadArgument),
     }

@@ -3,8 +3,8 @@
 //! A host's script is a list of the answers that it gives: `{"measured":MEASURE}` (null, `[SIZE,SUM]` or
 //! `{"folder":[..]}`), `{"head":TEXT}`, `{"staged":true}`, `{"started":true}`,
 //! `{"ended":[TICKET,CODE,MILLIS]}` (the code is null for a child that a signal ended),
-//! `{"found":[[NAME,IS_DIR,SIZE,SUM]]}`, `{"fetched":[..]}` with such entries, `{"stored":true}` and `{"delivered":true}`. A call that
-//! the script does not answer next fails.
+//! `{"found":[[NAME,IS_DIR,SIZE,SUM]]}`, `{"fetched":[..]}` with such entries, `{"stored":true}`, `{"delivered":true}` and
+//! `{"discarded":true}`. A call that the script does not answer next fails.
 #![tactic(auto)]
 
 pub mod answers;

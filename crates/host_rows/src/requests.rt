@@ -53,6 +53,7 @@ fn put_words(out: &mut AnswerText, request: &HostRequest) {
             out.put("deliver");
             put_moves(out, plan);
         }
+        HostRequest::Discard(key) => put_path(out, "discard ", key.as_str()),
     }
 }
 

@@ -83,8 +83,11 @@ fn bare_reply(json: &Json) -> Option<Reply> {
     if json.get("stored").is_some() {
         return Some(Reply::Store);
     }
-    json.get("delivered")?;
-    Some(Reply::Deliver)
+    if json.get("delivered").is_some() {
+        return Some(Reply::Deliver);
+    }
+    json.get("discarded")?;
+    Some(Reply::Discard)
 }
 
 fn end_of(json: &Json) -> Result<ChildEnd, RowFault> {

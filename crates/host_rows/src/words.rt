@@ -60,6 +60,7 @@ fn fault_named(name: &str) -> Option<HostFault> {
         "Fetch" => HostFault::Fetch,
         "Store" => HostFault::Store,
         "Deliver" => HostFault::Deliver,
+        "Discard" => HostFault::Discard,
         _ => return None,
     };
     Some(fault)

@@ -94,8 +94,9 @@ pub fn job_as_text(alloc: Global, tool: &Tool, inputs: &Keyed<Value>) -> Result<
 
 /// The sample of `job_rows`.
 pub fn kept_row<R: Record>(record: &mut R, row: &Row) -> Result<(), RecordError> {
-    record.put(row)?;
+    let lost = record.put(row)?; // the keys that are without their archive by it
     let found = record.find(&row.key)?; // Some(row), unless somebody else writes into the record
+    record.touch(&row.key)?; // its archive was used
     Ok(())
 }
 

@@ -47,6 +47,7 @@ pub fn left_behind<H: Host>(
     host.store(key, folder, &found)?; // archives what was found in a folder, under a key
     let there = host.fetch(key, 1, &found)?; // those of them that are archived under the key, as they are there
     host.deliver(plan)?; // copies outputs to where they are wanted
+    host.discard(key)?; // removes what is archived under a key
     Ok(())
 }
 

@@ -14,9 +14,10 @@ use std::mem;
 pub(crate) fn begun<D: Disk + Drop>(
     alloc: Global,
     files: Files<D>,
+    budget: Option<u64>,
 ) -> Result<JobRecord<FileStore<D>>, (RecordFault, Files<D>)> {
     match connected(alloc, files) {
-        Ok(conn) => recorded(alloc, conn),
+        Ok(conn) => recorded(alloc, conn, budget),
         Err((error, files)) => Err((RecordFault::Store(error), files)),
     }
 }
@@ -37,8 +38,9 @@ fn connected<D: Disk + Drop>(
 fn recorded<D: Disk + Drop>(
     alloc: Global,
     conn: Connection<FileStore<D>>,
+    budget: Option<u64>,
 ) -> Result<JobRecord<FileStore<D>>, (RecordFault, Files<D>)> {
-    match opened(alloc, conn) {
+    match opened(alloc, conn, budget) {
         Ok(record) => Ok(record),
         Err((fault, conn)) => Err((fault, conn.into_store().close())),
     }

@@ -17,6 +17,7 @@ use std::mem;
 pub(crate) enum Ask<'a> {
     Put(&'a RecordRow),
     Find(&'a str),
+    Touch(&'a str),
     DropArchive(&'a str),
     Forget(&'a str),
     List,
@@ -31,8 +32,9 @@ pub(crate) fn asked<S: Alter>(
     out: &mut AnswerText,
 ) {
     match ask {
-        Ask::Put(row) => put_outcome(out, record.put(row)),
+        Ask::Put(row) => put_lost(out, record.put(row)),
         Ask::Find(key) => put_found(alloc, out, record.find(key)),
+        Ask::Touch(key) => put_outcome(out, record.touch(key)),
         Ask::DropArchive(key) => put_outcome(out, record.drop_archive(key)),
         Ask::Forget(key) => put_outcome(out, record.forget(key)),
         Ask::List => put_listed(alloc, out, record.list()),
@@ -45,6 +47,24 @@ fn put_outcome(out: &mut AnswerText, done: Result<(), RecordFault>) {
         Ok(()) => out.put("\"done\""),
         Err(fault) => put_fault(out, fault),
     }
+}
+
+fn put_lost(out: &mut AnswerText, lost: Result<Items<Text>, RecordFault>) {
+    match &lost {
+        Ok(keys) => put_keys(out, keys.as_slice()),
+        Err(fault) => put_fault(out, *fault),
+    }
+    mem::drop(lost);
+}
+
+/// Writes the keys that are without their archive by a put.
+pub(crate) fn put_keys(out: &mut AnswerText, keys: &[Text]) {
+    out.put("[");
+    for (at, key) in keys.iter().enumerate() {
+        put_comma(out, at);
+        out.put_quoted(key.as_str());
+    }
+    out.put("]");
 }
 
 /// Writes the code of a refusal.
@@ -96,6 +116,7 @@ fn command_name(command: Command) -> &'static str {
     match command {
         Command::Find => "find",
         Command::Put => "put",
+        Command::Touch => "touch",
         Command::DropArchive => "drop_archive",
         Command::Forget => "forget",
     }
@@ -114,11 +135,22 @@ pub(crate) fn found<S: Alter>(
 }
 
 /// Puts a row, as a run asks it.
-pub(crate) fn put<S: Alter>(kept: &mut JobRecord<S>, row: &RecordRow) -> Result<(), RecordError>
+pub(crate) fn put<S: Alter>(
+    kept: &mut JobRecord<S>,
+    row: &RecordRow,
+) -> Result<Items<Text>, RecordError>
     ensures { kept.new.log.items ≡ kept.old.log.items
         ++ entries_of command.Put row.now.key (told_of result) }
 {
     Record::put(kept, row)
+}
+
+/// Notes that an archive was used, as a run asks it.
+pub(crate) fn touched<S: Alter>(kept: &mut JobRecord<S>, key: &Text) -> Result<(), RecordError>
+    ensures { kept.new.log.items ≡ kept.old.log.items
+        ++ entries_of command.Touch key.now (told_of result) }
+{
+    Record::touch(kept, key)
 }
 
 /// Notes that an archive is gone, as a run asks it.
@@ -138,9 +170,10 @@ pub(crate) fn listed<S: Alter>(record: &mut JobRecord<S>) -> Option<Items<Record
 pub(crate) fn opened<S: Alter + Drop>(
     alloc: Global,
     conn: Connection<S>,
+    budget: Option<u64>,
 ) -> Result<JobRecord<S>, (RecordFault, Connection<S>)> {
     if conn.is_autocommit() {
-        JobRecord::open_record(alloc, conn)
+        JobRecord::open_record(alloc, conn, budget)
     } else {
         Err((RecordFault::NotARecord, conn))
     }

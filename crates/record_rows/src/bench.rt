@@ -2,11 +2,13 @@
 
 use crate::asks::opened;
 use crate::fill::number_at;
+use crate::rows::budget_of;
 use job_record::{JobRecord, RecordFault};
 use job_rows::Row as RecordRow;
 use plain_data::{Items, Keyed, Text};
 use row_io::{Row, RowFault};
 use sqlite::{Alter, Connection};
+use staging::Found;
 use std::alloc::Global;
 use std::mem;
 use std::time::Instant;
@@ -33,15 +35,19 @@ struct Times {
 /// looked for.
 pub(crate) fn measured(rt: &HostRuntime, row: &Row) -> Result<String, RowFault> {
     let file = row.text("file")?;
-    let counts = Counts {
-        rows: row.natural("rows")?,
-        times: row.natural("times")?,
-    };
+    let counts = counts_of(row)?;
     let start = now(rt)?;
     match Connection::open(rt, file) {
         Ok(conn) => on_connection(rt, conn, counts, start),
         Err(_) => Err(RowFault::BadArgument),
     }
+}
+
+fn counts_of(row: &Row) -> Result<Counts, RowFault> {
+    Ok(Counts {
+        rows: row.natural("rows")?,
+        times: row.natural("times")?,
+    })
 }
 
 fn on_connection<S: Alter + Drop>(
@@ -51,7 +57,7 @@ fn on_connection<S: Alter + Drop>(
     start: Instant,
 ) -> Result<String, RowFault> {
     let connect = micros_since(rt, start);
-    match opened(rt.alloc(), conn) {
+    match opened(rt.alloc(), conn, None) {
         Ok(mut record) => {
             let times = times_of(rt, &mut record, counts, start, connect);
             mem::drop(record);
@@ -160,17 +166,19 @@ fn put_all<S: Alter>(
 ) -> Result<u128, RowFault> {
     let start = now(rt)?;
     for at in 0..counts.times {
-        put(rt.alloc(), record, number_at(at, counts.rows))?;
+        put(record, row_of(rt.alloc(), number_at(at, counts.rows))?)?;
     }
     micros_since(rt, start)
 }
 
-fn put<S: Alter>(alloc: Global, record: &mut JobRecord<S>, at: u64) -> Result<(), RowFault> {
-    let row = row_of(alloc, at)?;
-    let done = record.put(&row);
+fn put<S: Alter>(record: &mut JobRecord<S>, row: RecordRow) -> Result<(), RowFault> {
+    let lost = record.put(&row);
     mem::drop(row);
-    match done {
-        Ok(()) => Ok(()),
+    match lost {
+        Ok(keys) => {
+            mem::drop(keys);
+            Ok(())
+        }
         Err(fault) => Err(row_fault(fault)),
     }
 }
@@ -192,4 +200,95 @@ fn key_of(alloc: Global, at: u64, end: &str) -> Result<String, RowFault> {
     Ok(format!(in alloc;
         "{{\"env\":[],\"inputs\":{{\"n\":{at:08}}},\"tool\":{{\"baseCommand\":\"sort\",\"class\":\"CommandLineTool\",\"inputs\":{{\"n\":\"int\"}},\"outputs\":{{\"out\":\"stdout\"}},\"stdout\":\"out.txt\"}}}}{end}"
     )?)
+}
+
+/// The microseconds that the record of a file with so many archived rows takes under the row's budget: to put a first new row, behind
+/// which it knows the bytes of all archives, to put so many more, and to touch as many.
+pub(crate) fn measured_archives(rt: &HostRuntime, row: &Row) -> Result<String, RowFault> {
+    let file = row.text("file")?;
+    let counts = counts_of(row)?;
+    let budget = budget_of(row)?;
+    match Connection::open(rt, file) {
+        Ok(conn) => on_archives(rt, conn, counts, budget),
+        Err(_) => Err(RowFault::BadArgument),
+    }
+}
+
+fn on_archives<S: Alter + Drop>(
+    rt: &HostRuntime,
+    conn: Connection<S>,
+    counts: Counts,
+    budget: Option<u64>,
+) -> Result<String, RowFault> {
+    match opened(rt.alloc(), conn, budget) {
+        Ok(mut record) => {
+            let times = archive_times(rt, &mut record, counts);
+            mem::drop(record);
+            times
+        }
+        Err((fault, conn)) => {
+            mem::drop(conn);
+            Err(row_fault(fault))
+        }
+    }
+}
+
+fn archive_times<S: Alter>(
+    rt: &HostRuntime,
+    record: &mut JobRecord<S>,
+    counts: Counts,
+) -> Result<String, RowFault> {
+    let first = put_new(rt, record, counts.rows, 1)?;
+    let put = put_new(rt, record, counts.rows.saturating_add(1), counts.times)?;
+    let touch = touch_all(rt, record, counts.rows.saturating_add(1), counts.times)?;
+    Ok(format!(in rt.alloc(); "{{\"first\":{first},\"put\":{put},\"touch\":{touch}}}")?)
+}
+
+// The microseconds that putting so many archived rows takes, whose numbers begin with this one.
+fn put_new<S: Alter>(
+    rt: &HostRuntime,
+    record: &mut JobRecord<S>,
+    first: u64,
+    times: u64,
+) -> Result<u128, RowFault> {
+    let start = now(rt)?;
+    for at in 0..times {
+        put(record, archived_row(rt.alloc(), first.saturating_add(at))?)?;
+    }
+    micros_since(rt, start)
+}
+
+// The microseconds that touching these rows takes.
+fn touch_all<S: Alter>(
+    rt: &HostRuntime,
+    record: &mut JobRecord<S>,
+    first: u64,
+    times: u64,
+) -> Result<u128, RowFault> {
+    let start = now(rt)?;
+    for at in 0..times {
+        touch(rt.alloc(), record, first.saturating_add(at))?;
+    }
+    micros_since(rt, start)
+}
+
+fn touch<S: Alter>(alloc: Global, record: &mut JobRecord<S>, at: u64) -> Result<(), RowFault> {
+    let key = key_of(alloc, at, "")?;
+    match record.touch(key.as_str()) {
+        Ok(()) => Ok(()),
+        Err(fault) => Err(row_fault(fault)),
+    }
+}
+
+// A row whose archive has as many bytes as that of each row of the file.
+fn archived_row(alloc: Global, at: u64) -> Result<RecordRow, RowFault> {
+    let mut row = row_of(alloc, at)?;
+    row.files.push(Found {
+        name: Text::from_text(alloc, "out.txt")?,
+        is_dir: false,
+        size: 1000,
+        sum: Text::from_text(alloc, "a9993e364706816aba3e25717850c26c9cd0d89d")?,
+    })?;
+    row.archived = true;
+    Ok(row)
 }

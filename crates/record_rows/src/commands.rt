@@ -1,7 +1,7 @@
 //! Commands on a record.
 
 use crate::asks::Ask;
-use crate::rows::{put_comma, row_in, text_of};
+use crate::rows::{budget_of, put_comma, row_in, text_of};
 use crate::store::{Disks, Store};
 use row_io::{AnswerText, Row, RowFault};
 use serde_json::Value as Json;
@@ -11,16 +11,22 @@ use std::mem;
 /// What each of the row's commands is answered, on a new record.
 pub(crate) fn answers(alloc: Global, row: &Row) -> Result<String, RowFault> {
     let commands = row.list("commands")?;
+    let budget = budget_of(row)?;
     let mut out = AnswerText::new(alloc);
     out.put("[");
-    mem::drop(run_all(alloc, commands, &mut out));
+    mem::drop(run_all(alloc, commands, budget, &mut out));
     out.put("]");
     out.finish()
 }
 
 /// The files of a new record after these commands, which it writes the answers of.
-pub(crate) fn run_all(alloc: Global, commands: &[Json], out: &mut AnswerText) -> Disks {
-    match Disks::fresh(alloc).open(alloc) {
+pub(crate) fn run_all(
+    alloc: Global,
+    commands: &[Json],
+    budget: Option<u64>,
+    out: &mut AnswerText,
+) -> Disks {
+    match Disks::fresh(alloc).open(alloc, budget) {
         Ok(store) => run_on(alloc, store, commands, out),
         Err((_fault, disks)) => disks,
     }
@@ -30,8 +36,8 @@ fn run_on(alloc: Global, store: Store, commands: &[Json], out: &mut AnswerText) 
     let mut store = store;
     for (at, command) in commands.iter().enumerate() {
         put_comma(out, at);
-        if command.as_str() == Some("reopen") {
-            match reopened(alloc, store, out) {
+        if let Some(budget) = command.get("reopen") {
+            match reopened(alloc, store, budget.as_u64(), out) {
                 Ok(again) => store = again,
                 Err(disks) => return disks,
             }
@@ -42,8 +48,13 @@ fn run_on(alloc: Global, store: Store, commands: &[Json], out: &mut AnswerText) 
     store.close()
 }
 
-fn reopened(alloc: Global, store: Store, out: &mut AnswerText) -> Result<Store, Disks> {
-    match store.close().open(alloc) {
+fn reopened(
+    alloc: Global,
+    store: Store,
+    budget: Option<u64>,
+    out: &mut AnswerText,
+) -> Result<Store, Disks> {
+    match store.close().open(alloc, budget) {
         Ok(again) => {
             out.put("\"opened\"");
             Ok(again)
@@ -76,14 +87,6 @@ pub(crate) fn put(alloc: Global, store: &mut Store, json: &Json, out: &mut Answe
     mem::drop(row);
 }
 
-/// Writes the rows of the record in the files.
-pub(crate) fn put_held(alloc: Global, disks: Disks, out: &mut AnswerText) {
-    match disks.open(alloc) {
-        Ok(mut store) => store.ask(alloc, Ask::List, out),
-        Err((_fault, _disks)) => out.put("?"),
-    }
-}
-
 /// The command that an object or a word stands for, but `put`.
 pub(crate) fn ask_in(command: &Json) -> Option<Ask<'_>> {
     match command.as_str() {
@@ -96,6 +99,9 @@ pub(crate) fn ask_in(command: &Json) -> Option<Ask<'_>> {
 fn keyed(command: &Json) -> Option<Ask<'_>> {
     if let Some(key) = text_of(command, "find") {
         return Some(Ask::Find(key));
+    }
+    if let Some(key) = text_of(command, "touch") {
+        return Some(Ask::Touch(key));
     }
     if let Some(key) = text_of(command, "drop_archive") {
         return Some(Ask::DropArchive(key));

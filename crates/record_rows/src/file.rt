@@ -95,7 +95,7 @@ fn held_by(alloc: Global, disks: Disks) -> Result<Vec<u8>, RowFault> {
 fn disks_of(alloc: Global, row: &Row) -> Disks {
     let mut answers = AnswerText::new(alloc);
     let disks = match row.list("commands") {
-        Ok(commands) => run_all(alloc, commands, &mut answers),
+        Ok(commands) => run_all(alloc, commands, None, &mut answers),
         Err(_) => Disks::fresh(alloc).run(alloc, row.text("sql").unwrap_or(""), &mut answers),
     };
     mem::drop(answers);

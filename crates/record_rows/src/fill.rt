@@ -1,6 +1,7 @@
 //! A record with many rows.
 
-use crate::commands::{put, put_held, run};
+use crate::asks::Ask;
+use crate::commands::{put, run};
 use crate::rows::put_comma;
 use crate::store::{Disks, Store};
 use row_io::{AnswerText, Row, RowFault};
@@ -34,11 +35,18 @@ fn is_listed(alloc: Global, count: u64) -> Result<bool, RowFault> {
 
 fn listed(alloc: Global, count: u64) -> Result<String, RowFault> {
     let mut found = AnswerText::new(alloc);
-    match Disks::fresh(alloc).open(alloc) {
-        Ok(store) => put_held(alloc, changed(alloc, store, count), &mut found),
+    match Disks::fresh(alloc).open(alloc, None) {
+        Ok(store) => put_listed(alloc, changed(alloc, store, count), &mut found),
         Err((_fault, _disks)) => found.put("?"),
     }
     found.finish()
+}
+
+fn put_listed(alloc: Global, disks: Disks, out: &mut AnswerText) {
+    match disks.open(alloc, None) {
+        Ok(mut store) => store.ask(alloc, Ask::List, out),
+        Err((_fault, _disks)) => out.put("?"),
+    }
 }
 
 fn changed(alloc: Global, store: Store, count: u64) -> Disks {

@@ -36,7 +36,7 @@ pub(crate) fn faults(alloc: Global, row: &Row) -> Result<String, RowFault> {
     let sum = row.text("sum")?;
     let fails_log = row.flag("log")?;
     let mut answers = AnswerText::new(alloc);
-    let start = run_all(alloc, row.list("before")?, &mut answers);
+    let start = run_all(alloc, row.list("before")?, None, &mut answers);
     mem::drop(answers);
     let seen = seen_on(alloc, &start, fails_log, sum);
     mem::drop(start);
@@ -80,7 +80,7 @@ fn count(seen: &mut Seen, ended: Ended) {
 
 // None if the files have calls left, so that none failed.
 fn end_of(alloc: Global, start: &Disks, stop: Stop, sum: &str) -> Option<Ended> {
-    match start.copied(alloc, stop)?.open(alloc) {
+    match start.copied(alloc, stop)?.open(alloc, None) {
         Ok(store) => end_in(alloc, start, stop, store, sum),
         Err((_fault, _disks)) => Some(Ended::Unopened),
     }
@@ -117,7 +117,7 @@ fn forgets_alone(alloc: Global, start: &Disks, stop: Stop, sum: &str) -> bool {
     let Some(disks) = start.copied(alloc, stop) else {
         return false;
     };
-    match disks.open(alloc) {
+    match disks.open(alloc, None) {
         Ok(store) => store.forgets(alloc, sum),
         Err((_fault, _disks)) => false,
     }

@@ -1,6 +1,6 @@
 //! Rows of the record: each line of `stdin` is a call, and `stdout` has its answer. A command is an object with
-//! one member: `{"put":ROW}`, `{"find":KEY}`, `{"drop_archive":KEY}`, `{"forget":KEY}`, or `"list"`, `"log"`, `"reopen"`.
-//! A refusal is answered by its code. What an answer lacks stands in it as `?`.
+//! one member: `{"put":ROW}`, `{"find":KEY}`, `{"touch":KEY}`, `{"drop_archive":KEY}`, `{"forget":KEY}`, `{"reopen":BUDGET}`, or
+//! `"list"`, `"log"`. A refusal is answered by its code. What an answer lacks stands in it as `?`.
 #![tactic(auto)]
 
 mod any_disk;
@@ -33,6 +33,7 @@ pub fn answer(rt: &HostRuntime, row: &Row) -> Result<String, RowFault> {
         "fill" => fill::filled(alloc, row),
         "record" => file::shown(rt, row),
         "measured" => bench::measured(rt, row),
+        "measured_archives" => bench::measured_archives(rt, row),
         _ => Err(RowFault::UnknownCall),
     }
 }

@@ -1,30 +1,33 @@
 //! Records opened on stores that SQL has made, and on files of any bytes.
 
-use crate::asks::{Ask, put_fault};
+use crate::asks::put_fault;
+use crate::commands::run;
 use crate::store::{Disks, Store};
 use row_io::{AnswerText, Row, RowFault};
+use serde_json::Value as Json;
 use std::alloc::Global;
 use std::mem;
 
-/// How the store opens as a record that the row's SQL has made, what it then finds for the row's key, where it has one, and
-/// what the row's query shows of it.
+/// How the store opens as a record that the row's SQL has made, what it then answers to the row's commands, and what the row's query
+/// shows of it.
 pub(crate) fn opened(alloc: Global, row: &Row) -> Result<String, RowFault> {
     let sql = row.text("sql")?;
     let query = row.text("show")?;
+    let commands = row.list("commands")?;
     let mut out = AnswerText::new(alloc);
     out.put("[");
     let disks = Disks::fresh(alloc).run(alloc, sql, &mut out);
-    let disks = told(alloc, disks, row.text("find").ok(), &mut out);
+    let disks = told(alloc, disks, commands, &mut out);
     out.put(",");
     mem::drop(disks.run(alloc, query, &mut out));
     out.put("]");
     out.finish()
 }
 
-// Writes how the files open, and what is found there, and gives them back.
-fn told(alloc: Global, disks: Disks, find: Option<&str>, out: &mut AnswerText) -> Disks {
-    match disks.open(alloc) {
-        Ok(store) => found_in(alloc, store, find, out),
+// Writes how the files open, and what the record answers, and gives them back.
+fn told(alloc: Global, disks: Disks, commands: &[Json], out: &mut AnswerText) -> Disks {
+    match disks.open(alloc, None) {
+        Ok(store) => answered(alloc, store, commands, out),
         Err((fault, disks)) => {
             put_fault(out, fault);
             disks
@@ -32,12 +35,12 @@ fn told(alloc: Global, disks: Disks, find: Option<&str>, out: &mut AnswerText) -
     }
 }
 
-fn found_in(alloc: Global, store: Store, find: Option<&str>, out: &mut AnswerText) -> Disks {
+fn answered(alloc: Global, store: Store, commands: &[Json], out: &mut AnswerText) -> Disks {
     let mut store = store;
     out.put("\"opened\"");
-    if let Some(key) = find {
+    for command in commands {
         out.put(",");
-        store.ask(alloc, Ask::Find(key), out);
+        run(alloc, &mut store, command, out);
     }
     store.close()
 }
@@ -59,7 +62,7 @@ fn put_opened(alloc: Global, bytes: &[u8], out: &mut AnswerText) {
 
 fn put_told(alloc: Global, disks: Disks, bytes: &[u8], out: &mut AnswerText) {
     out.put("[");
-    let disks = told(alloc, disks, None, out);
+    let disks = told(alloc, disks, &[], out);
     out.put(",");
     out.put_flag(disks.bytes() == bytes);
     out.put("]");

@@ -3,7 +3,7 @@
 use cwl_value::{Value, ValueRefusal, canonical_text, copy_fields, from_json};
 use job_rows::Row;
 use plain_data::{Items, Keyed, Text};
-use row_io::{AnswerText, RowFault};
+use row_io::{AnswerText, Row as Asked, RowFault};
 use serde_json::Value as Json;
 use staging::Found;
 use std::alloc::{AllocError, Global};
@@ -44,6 +44,14 @@ fn number_of(json: &Json, name: &str) -> Option<u64> {
 
 fn flag_of(json: &Json, name: &str) -> Option<bool> {
     json.get(name)?.as_bool()
+}
+
+/// How many bytes the archives of a record may have together, if the row of the test says it.
+pub fn budget_of(row: &Asked) -> Result<Option<u64>, RowFault> {
+    if row.find("budget").is_none() {
+        return Ok(None);
+    }
+    Ok(Some(row.natural("budget")?))
 }
 
 /// The row that an object tells of, if it tells of one.

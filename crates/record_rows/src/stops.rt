@@ -1,6 +1,8 @@
 //! A stop at each call of a file, while a command runs.
 
-use crate::commands::{put_held, run, run_all};
+use crate::asks::Ask;
+use crate::commands::{run, run_all};
+use crate::rows::budget_of;
 use crate::store::{Disks, NEVER, Stop, Store};
 use row_io::{AnswerText, Row, RowFault};
 use serde_json::Value as Json;
@@ -9,6 +11,9 @@ use std::mem;
 
 // No command here calls a file so often.
 const MOST_CALLS: u64 = 10_000;
+
+// The archives, in the order of their uses.
+const ARCHIVES: &str = "SELECT key || ' ' || bytes || ' ' || used FROM archive ORDER BY used";
 
 /// What the records hold that were stopped at each call of one of their files.
 #[derive(Clone, Copy)]
@@ -22,6 +27,7 @@ struct Seen {
 struct Trial<'a> {
     alloc: Global,
     command: Option<&'a Json>,
+    budget: Option<u64>,
     power_cut: bool,
     start: Disks,
     before: String,
@@ -33,6 +39,7 @@ impl Drop for Trial<'_> {
         let Trial {
             alloc: _,
             command: _,
+            budget: _,
             power_cut: _,
             start: _,
             before: _,
@@ -42,12 +49,10 @@ impl Drop for Trial<'_> {
 }
 
 /// What a record holds after a command was stopped at each call of its files: what it held before, or what it holds
-/// after. Without a command the record is only opened, from no file on.
+/// after. Without a command the record is only opened: from no file on, or from a store that SQL has made.
 pub(crate) fn stops(alloc: Global, row: &Row) -> Result<String, RowFault> {
     let power_cut = row.flag("power_cut")?;
-    let command = row.find("command");
-    let start = start_of(alloc, row);
-    let trial = trial_of(alloc, command, power_cut, start)?;
+    let trial = trial_of(alloc, row, budget_of(row)?, power_cut)?;
     let seen = seen_by(&trial);
     mem::drop(trial);
     seen_text(alloc, seen)
@@ -63,31 +68,30 @@ fn seen_text(alloc: Global, seen: Seen) -> Result<String, RowFault> {
 }
 
 // The files on which the command starts.
-fn start_of(alloc: Global, row: &Row) -> Disks {
-    match row.list("before") {
-        Ok(commands) => made(alloc, commands),
-        Err(_) => Disks::fresh(alloc),
-    }
-}
-
-fn made(alloc: Global, commands: &[Json]) -> Disks {
+fn start_of(alloc: Global, row: &Row, budget: Option<u64>) -> Disks {
     let mut answers = AnswerText::new(alloc);
-    let disks = run_all(alloc, commands, &mut answers);
+    let disks = match row.list("before") {
+        Ok(commands) => run_all(alloc, commands, budget, &mut answers),
+        Err(_) => Disks::fresh(alloc).run(alloc, row.text("sql").unwrap_or(""), &mut answers),
+    };
     mem::drop(answers);
     disks
 }
 
-fn trial_of<'a>(
+fn trial_of(
     alloc: Global,
-    command: Option<&'a Json>,
+    row: &Row,
+    budget: Option<u64>,
     power_cut: bool,
-    start: Disks,
-) -> Result<Trial<'a>, RowFault> {
-    let before = held_after(alloc, &start, None)?;
-    let after = held_after(alloc, &start, command)?;
+) -> Result<Trial<'_>, RowFault> {
+    let command = row.find("command");
+    let start = start_of(alloc, row, budget);
+    let before = held_after(alloc, &start, budget, None)?;
+    let after = held_after(alloc, &start, budget, command)?;
     Ok(Trial {
         alloc,
         command,
+        budget,
         power_cut,
         start,
         before,
@@ -95,19 +99,40 @@ fn trial_of<'a>(
     })
 }
 
-// What a record on a copy of the files holds after a command.
-fn held_after(alloc: Global, start: &Disks, command: Option<&Json>) -> Result<String, RowFault> {
+// What a record on a copy of the files holds after a command: its rows, and its archives.
+fn held_after(
+    alloc: Global,
+    start: &Disks,
+    budget: Option<u64>,
+    command: Option<&Json>,
+) -> Result<String, RowFault> {
     let mut held = AnswerText::new(alloc);
-    match left(alloc, start, NEVER, command) {
-        Some(disks) => put_held(alloc, disks, &mut held),
+    match left(alloc, start, NEVER, budget, command) {
+        Some(disks) => put_held(alloc, disks, budget, &mut held),
         None => held.put("?"),
     }
     held.finish()
 }
 
+fn put_held(alloc: Global, disks: Disks, budget: Option<u64>, out: &mut AnswerText) {
+    match disks.open(alloc, budget) {
+        Ok(mut store) => {
+            store.ask(alloc, Ask::List, out);
+            mem::drop(store.close().run(alloc, ARCHIVES, out));
+        }
+        Err((_fault, _disks)) => out.put("?"),
+    }
+}
+
 // The files after the command has been run on a copy of them, as far as it came.
-fn left(alloc: Global, start: &Disks, stop: Stop, command: Option<&Json>) -> Option<Disks> {
-    match start.copied(alloc, stop)?.open(alloc) {
+fn left(
+    alloc: Global,
+    start: &Disks,
+    stop: Stop,
+    budget: Option<u64>,
+    command: Option<&Json>,
+) -> Option<Disks> {
+    match start.copied(alloc, stop)?.open(alloc, budget) {
         Ok(store) => Some(run_once(alloc, store, command)),
         Err((_fault, disks)) => Some(disks),
     }
@@ -148,14 +173,14 @@ fn seen_on(trial: &Trial<'_>, seen: Seen, stops_log: bool) -> Seen {
 
 // What the record holds once it is opened again after a stop; none where the command did not meet it.
 fn held_then(trial: &Trial<'_>, stop: Stop) -> Option<String> {
-    let mut disks = left(trial.alloc, &trial.start, stop, trial.command)?;
+    let mut disks = left(trial.alloc, &trial.start, stop, trial.budget, trial.command)?;
     if !disks.is_blown() {
         return None;
     }
     if trial.power_cut {
         disks.restart();
     }
-    held_after(trial.alloc, &disks, None).ok()
+    held_after(trial.alloc, &disks, trial.budget, None).ok()
 }
 
 fn count(seen: &mut Seen, text: &str, trial: &Trial<'_>) {

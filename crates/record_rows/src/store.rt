@@ -2,7 +2,7 @@
 //! file, is anything called at a store that is named, since each such call takes the check long: once in a function.
 
 use crate::any_disk::{begun, closed, forgets, forgotten_in, run_on, stopped};
-use crate::asks::{Ask, asked, dropped, found, listed, put};
+use crate::asks::{Ask, asked, dropped, found, listed, put, touched};
 use job_record::{JobRecord, RecordFault};
 use job_rows::{Entry, Record, RecordError, Row as RecordRow};
 use plain_data::{Items, Text};
@@ -117,9 +117,9 @@ impl Disks {
     }
 
     /// The record in the files, or the refusal with the files again.
-    pub fn open(self, alloc: Global) -> Result<Store, (RecordFault, Disks)> {
+    pub fn open(self, alloc: Global, budget: Option<u64>) -> Result<Store, (RecordFault, Disks)> {
         let Disks { files } = self;
-        match begun(alloc, files) {
+        match begun(alloc, files, budget) {
             Ok(record) => Ok(Store { record }),
             Err((fault, files)) => Err((fault, Disks { files })),
         }
@@ -194,8 +194,12 @@ impl Record for Store {
         found(&mut self.record, key)
     }
 
-    fn put(&mut self, row: &RecordRow) -> Result<(), RecordError> {
+    fn put(&mut self, row: &RecordRow) -> Result<Items<Text>, RecordError> {
         put(&mut self.record, row)
+    }
+
+    fn touch(&mut self, key: &Text) -> Result<(), RecordError> {
+        touched(&mut self.record, key)
     }
 
     fn drop_archive(&mut self, key: &Text) -> Result<(), RecordError> {

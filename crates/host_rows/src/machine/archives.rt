@@ -13,7 +13,7 @@ use std::mem;
 /// Writes what a row's steps answer, one after the other, of a host that keeps its archive in the row's `archive`, where the row has one.
 ///
 /// A step is `{"scan":FOLDER}`, the listing of a folder; `{"files":LISTING}`; `{"store":[KEY,FOLDER]}` and `{"fetch":[KEY,NUMBER]}`,
-/// both of the files that were listed last; or `{"sh":SCRIPT}`, which answers what the shell writes.
+/// both of the files that were listed last; `{"discard":KEY}`; or `{"sh":SCRIPT}`, which answers what the shell writes.
 pub fn put_told<H: Host>(
     rt: &HostRuntime,
     host: &mut H,
@@ -66,6 +66,10 @@ fn take_call<H: Host>(
         let key = Text::from_text(alloc, text_at(store, 0)?)?;
         let folder = below(alloc, place, text_at(store, 1)?)?;
         put_done(host.store(&key, &folder, files), out);
+        return Ok(());
+    }
+    if let Some(key) = step.get("discard") {
+        put_done(host.discard(&Text::from_text(alloc, text_of(key)?)?), out);
         return Ok(());
     }
     let fetch = step.get("fetch").ok_or(RowFault::BadArgument)?;

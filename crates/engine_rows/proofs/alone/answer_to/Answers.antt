@@ -1,5 +1,5 @@
 use Rattle.std.proofs.Common.{[], arith, refl}
-use Rattle.proc_host.specs.Answers.{is_delivered, is_fetched, is_measured, is_read, is_staged, is_stored}
+use Rattle.proc_host.specs.Answers.{is_delivered, is_discarded, is_fetched, is_measured, is_read, is_staged, is_stored}
 use Rattle.engine_rows.proofs.alone.answer_to.Goals as goal
 
 pub returns-in_ok-one_byte-in-Measure : goal.returns-in_ok-one_byte-in-Measure
@@ -19,3 +19,6 @@ returns-in-Store c = rw c.in-Store.is (is_stored _ _ _)
 
 pub returns-in-Deliver : goal.returns-in-Deliver
 returns-in-Deliver c = rw c.in-Deliver.is (is_delivered _)
+
+pub returns-in-Discard : goal.returns-in-Discard
+returns-in-Discard c = rw c.in-Discard.is (is_discarded _)
