@@ -143,12 +143,14 @@ def altered_lines(chance, text, others):
 
 # Statements on a record: rows that don't read or that lie, tables that are views, other databases' forms.
 STATEMENTS = [
-    *("DELETE FROM meta", "UPDATE meta SET value = 2", "UPDATE meta SET value = -1", "INSERT INTO meta VALUES ('more', 1)", "DROP TABLE job", "DROP TABLE meta", "DELETE FROM job"),
+    *("DELETE FROM meta", "UPDATE meta SET value = 1", "UPDATE meta SET value = 3", "UPDATE meta SET value = -1", "INSERT INTO meta VALUES ('more', 1)", "DROP TABLE job", "DROP TABLE meta", "DELETE FROM job"),
     *("UPDATE job SET outputs = ''", "UPDATE job SET outputs = '[1]'", "UPDATE job SET outputs = '{\"o\":1.5}'", "UPDATE job SET files = '{}'", "UPDATE job SET files = '[[\"a\",false,-1,\"\"]]'"),
     *("UPDATE job SET files = '[[\"../a\",false,1,\"\"]]'", "UPDATE job SET files = '[[\"/etc/passwd\",false,1,\"x\"]]'", "UPDATE job SET outputs = '{\"o\":{\"class\":\"File\",\"location\":\"../../x\"}}'"),
     *("UPDATE job SET archived = 1 - archived", "UPDATE job SET cost = 1000000000000", "UPDATE job SET key = key || 'x'", "UPDATE job SET outputs = replace(outputs, 'o', 'p')"),
+    *("DROP TABLE archive", "DELETE FROM archive", "UPDATE archive SET used = 9223372036854775807", "UPDATE archive SET bytes = 9223372036854775807", "UPDATE archive SET key = key || 'x'"),
+    *("INSERT INTO archive SELECT key || rowid, bytes, used + 7 FROM archive", "ALTER TABLE archive RENAME COLUMN used TO uses", "ALTER TABLE archive RENAME TO kept; CREATE VIEW archive AS SELECT * FROM kept"),
     *("UPDATE job SET outputs = zeroblob(0) || printf('%.*c', 100000, '[')", "INSERT INTO job SELECT key || rowid, outputs, files, cost, archived FROM job"),
-    *("ALTER TABLE job RENAME COLUMN cost TO costs", "ALTER TABLE job ADD COLUMN more TEXT", "CREATE TABLE archive (key TEXT PRIMARY KEY)", "CREATE INDEX i ON job (cost)"),
+    *("ALTER TABLE job RENAME COLUMN cost TO costs", "ALTER TABLE job ADD COLUMN more TEXT", "CREATE TABLE more (key TEXT PRIMARY KEY)", "CREATE INDEX i ON job (cost)"),
     *("ALTER TABLE meta RENAME TO kept; CREATE VIEW meta AS SELECT * FROM kept", "ALTER TABLE job RENAME TO kept; CREATE VIEW job AS SELECT * FROM kept", "CREATE TRIGGER t AFTER INSERT ON job BEGIN DELETE FROM job; END"),
     *("DROP TABLE job; CREATE VIEW job AS WITH RECURSIVE n(i) AS (SELECT 1 UNION ALL SELECT i + 1 FROM n) SELECT i AS key, i AS outputs, i AS files, i AS cost, i AS archived FROM n",),
     *("DROP TABLE meta; CREATE VIEW meta AS WITH RECURSIVE n(i) AS (SELECT 1 UNION ALL SELECT i + 1 FROM n) SELECT 'version' AS name, i AS value FROM n",),

@@ -52,13 +52,67 @@ JOIN = tool('sleep 0.02; cat "$@" >joined', MANY, file_named("joined"))
 COUNT = tool('sleep 0.02; wc -c <"$1" | tr -d " " >count', ONE, file_named("count"))
 
 
-class Scene:
+class Place:
+    """A folder with what a run is given, and what its record and its archive hold."""
+
+    def __init__(self, folder, program, kept):
+        self.folder, self.program = folder, program
+        self.record, self.archive = f"{kept}/jobs.db", f"{kept}/files"
+        self.work, self.out = f"{folder}/work", f"{folder}/out"
+        os.makedirs(folder)
+
+    def write(self, name, value):
+        with open(f"{self.folder}/{name}", "w") as it:
+            json.dump(value, it)
+
+    def clear_run(self):
+        """Leaves nothing of a run but its record and its archive. Children of a run that was stopped may still write below its work folder."""
+        for folder in (self.work, self.out):
+            for _ in range(1_000):
+                shutil.rmtree(folder, ignore_errors=True)
+                if not os.path.lexists(folder):
+                    break
+                time.sleep(0.01)
+
+    def of_record(self, read, nothing):
+        """Returns what this reads in a copy of the record, and what sqlite3 says of its integrity: nothing of a file that isn't there, or one
+        whose making was cut off: its first byte is written last, and the next run makes it anew."""
+        if not os.path.exists(self.record) or content_of(self.record)[:1] == b"\0":
+            return nothing, "ok"
+        copy = f"{self.folder}/copy"
+        os.makedirs(copy)
+        try:
+            for end in ("", "-wal", "-journal"):
+                if os.path.exists(self.record + end):
+                    shutil.copy(self.record + end, f"{copy}/jobs.db{end}")
+            check = ["sqlite3", f"{copy}/jobs.db", "PRAGMA integrity_check"]
+            says = subprocess.run(check, stdout=subprocess.PIPE, stderr=subprocess.STDOUT, text=True, check=False).stdout.strip()
+            return read(f"{copy}/jobs.db"), says
+        finally:
+            shutil.rmtree(copy)
+
+    def is_whole(self, key, files):
+        """Returns whether the archive has these files of a key."""
+        return all(self.has(key, file) for file in files)
+
+    def has(self, key, file):
+        name, is_dir, size, checksum = file
+        path = f"{self.archive}/{sum_of(key.encode())}/{name}"
+        try:
+            mode = os.lstat(path).st_mode
+        except OSError:
+            return False
+        if is_dir:
+            return stat.S_ISDIR(mode)
+        return stat.S_ISREG(mode) and os.path.getsize(path) == size and sum_of(content_of(path)) == checksum
+
+
+class Scene(Place):
     """A folder with the workflow, its inputs, and the places that a run is given."""
 
     def __init__(self, folder, program, seed, slots=4):
-        self.folder, self.program, self.slots = folder, program, slots
-        self.record, self.archive = f"{folder}/jobs.db", f"{folder}/files"
-        self.work, self.out = f"{folder}/work", f"{folder}/out"
+        super().__init__(folder, program, folder)
+        self.slots = slots
         os.makedirs(f"{folder}/given")
         chance = random.Random(seed)
         self.contents = [bytes(chance.choice(b"abcdefgh \n") for _ in range(size)) for size in SIZES]
@@ -83,9 +137,8 @@ class Scene:
             "uppers": {"type": "File[]", "outputSource": "upper/o"},
         }
         inputs = {"files": [{"class": "File", "location": f"given/{number}"} for number in range(len(SIZES))]}
-        for name, value in (("scene.json", document), ("inputs.json", inputs)):
-            with open(f"{self.folder}/{name}", "w") as it:
-                json.dump(value, it)
+        self.write("scene.json", document)
+        self.write("inputs.json", inputs)
 
     def words(self):
         places = ["--work", self.work, "--outdir", self.out, "--record", self.record, "--archive", self.archive]
@@ -106,15 +159,6 @@ class Scene:
         starts = [line.split()[1] for line in lines if line.startswith("start ")]
         others = [line for line in lines if not line.startswith(TOLD)]
         return child.returncode, said, starts, others
-
-    def clear_run(self):
-        """Leaves nothing of a run but its record and its archive. Children of a run that was stopped may still write below its work folder."""
-        for folder in (self.work, self.out):
-            for _ in range(1_000):
-                shutil.rmtree(folder, ignore_errors=True)
-                if not os.path.lexists(folder):
-                    break
-                time.sleep(0.01)
 
     def clear(self):
         """Leaves no record, no archive, and nothing of a run."""
@@ -157,36 +201,8 @@ class Scene:
         return wrong
 
     def rows(self):
-        """Returns the rows of a copy of the record, and what sqlite3 says of its integrity. A file that isn't there has no row, nor has one
-        whose making was cut off: its first byte is written last, and the next run makes it anew."""
-        if not os.path.exists(self.record) or content_of(self.record)[:1] == b"\0":
-            return [], "ok"
-        copy = f"{self.folder}/copy"
-        os.makedirs(copy)
-        try:
-            for end in ("", "-wal", "-journal"):
-                if os.path.exists(self.record + end):
-                    shutil.copy(self.record + end, f"{copy}/jobs.db{end}")
-            check = ["sqlite3", f"{copy}/jobs.db", "PRAGMA integrity_check"]
-            says = subprocess.run(check, stdout=subprocess.PIPE, stderr=subprocess.STDOUT, text=True, check=False).stdout.strip()
-            return rows_in(f"{copy}/jobs.db"), says
-        finally:
-            shutil.rmtree(copy)
-
-    def is_whole(self, key, files):
-        """Returns whether the archive has these files of a key."""
-        return all(self.has(key, file) for file in files)
-
-    def has(self, key, file):
-        name, is_dir, size, checksum = file
-        path = f"{self.archive}/{sum_of(key.encode())}/{name}"
-        try:
-            mode = os.lstat(path).st_mode
-        except OSError:
-            return False
-        if is_dir:
-            return stat.S_ISDIR(mode)
-        return stat.S_ISREG(mode) and os.path.getsize(path) == size and sum_of(content_of(path)) == checksum
+        """Returns the rows of the record, and what sqlite3 says of its integrity."""
+        return self.of_record(rows_in, [])
 
 
 def rows_in(file):

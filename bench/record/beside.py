@@ -1,6 +1,6 @@
 """The record's statements by Python's sqlite3, and the medians of what `run.sh` measures.
 
-usage: beside.py make FILE ROWS | run FILE ROWS TIMES | tell TIMES-FILE ROWS
+usage: beside.py make FILE ROWS | archived FILE ROWS | run FILE ROWS TIMES | tell TIMES-FILE ROWS | budget TIMES-FILE ROWS
 """
 
 import sqlite3
@@ -9,11 +9,17 @@ import sys
 import time
 
 STRIDE = 7_919
+# Those of the file of an archived row, as measured_archives puts it.
+BYTES = 1_000
 META = "CREATE TABLE meta (name TEXT PRIMARY KEY, value INTEGER NOT NULL) STRICT"
 JOB = (
     "CREATE TABLE job (key TEXT PRIMARY KEY, outputs TEXT NOT NULL, files TEXT NOT NULL,"
     " cost INTEGER NOT NULL CHECK (cost BETWEEN 1 AND 1000000000000),"
     " archived INTEGER NOT NULL CHECK (archived IN (0, 1))) STRICT"
+)
+ARCHIVE = (
+    "CREATE TABLE archive (key TEXT PRIMARY KEY, bytes INTEGER NOT NULL CHECK (bytes >= 0),"
+    " used INTEGER NOT NULL UNIQUE CHECK (used >= 1)) STRICT"
 )
 COLUMNS = "key, outputs, files, cost, archived"
 FIND = f"SELECT {COLUMNS} FROM job WHERE key = ?1"
@@ -32,11 +38,22 @@ def key(at, end=""):
 
 
 def make(file, rows):
+    fill(file, ((key(at), "{}", "[]", at + 1, 0) for at in range(rows)), ())
+
+
+def archived(file, rows):
+    """Makes a record of rows that are archived, each with a file of BYTES bytes, used in the order of their numbers."""
+    files = '[["out.txt",false,%d,"%s"]]' % (BYTES, "a9993e364706816aba3e25717850c26c9cd0d89d")
+    fill(file, ((key(at), "{}", files, at + 1, 1) for at in range(rows)), ((key(at), BYTES, at + 1) for at in range(rows)))
+
+
+def fill(file, rows, archives):
     conn = sqlite3.connect(file)
-    conn.execute(META)
-    conn.execute(JOB)
-    conn.execute("INSERT INTO meta (name, value) VALUES ('version', 1)")
-    conn.executemany(PUT, ((key(at), "{}", "[]", at + 1, 0) for at in range(rows)))
+    for table in (META, JOB, ARCHIVE):
+        conn.execute(table)
+    conn.execute("INSERT INTO meta (name, value) VALUES ('version', 2)")
+    conn.executemany(PUT, rows)
+    conn.executemany("INSERT INTO archive (key, bytes, used) VALUES (?1, ?2, ?3)", archives)
     conn.commit()
     conn.close()
 
@@ -55,7 +72,7 @@ def told(what, start):
 def run(file, rows, times):
     start = time.perf_counter()
     conn = connect(file)
-    assert conn.execute(VERSION).fetchone() == (1,)
+    assert conn.execute(VERSION).fetchone() == (2,)
     conn.execute(f"SELECT {COLUMNS} FROM job LIMIT 0").fetchall()
     told("open", start)
     numbers = [at * STRIDE % rows for at in range(times)]
@@ -66,8 +83,12 @@ def run(file, rows, times):
         assert there == found
     start = time.perf_counter()
     for at in numbers:
+        conn.execute("BEGIN")
+        conn.execute("SELECT bytes FROM archive WHERE key = ?1", (key(at),)).fetchone()
         # (one more than the file's: where a row stays as it is, SQLite writes nothing)
         conn.execute(PUT, (key(at), "{}", "[]", at + 2, 0))
+        conn.execute("DELETE FROM archive WHERE key = ?1", (key(at),))
+        conn.execute("COMMIT")
     told("put", start)
 
 
@@ -87,6 +108,23 @@ def tell(file, rows):
         print(f"{rows} rows: the file opens as a database in {part:9.0f} us, and as a record in {share:.2f} of that: at most 1.10 is {'met' if share <= 1.1 else 'MISSED'}")
 
 
+def budget(file, rows):
+    """Tells what a budget adds to a put, and what a touch takes beside one: medians of what was measured in turn, in one run."""
+    times = {}
+    for line in open(file):
+        who, what, micros = line.split()
+        times.setdefault((who, what), []).append(int(micros))
+    median = {it: statistics.median(found) for it, found in times.items()}
+    put = median["none", "put"]
+    for who, words, most in (("wide", "with a budget that is never met", 1.3), ("full", "with one that each put meets", 1.3)):
+        ratio = median[who, "put"] / put
+        met = "met" if ratio <= most else "MISSED"
+        print(f"{rows} archived rows: put {put:9.0f} us, {words} {median[who, 'put']:9.0f} us, {ratio:.2f} of it: at most {most:.2f} is {met}")
+    ratio = median["none", "touch"] / put
+    print(f"{rows} archived rows: touch {median['none', 'touch']:9.0f} us, {ratio:.2f} of a put: at most 1.00 is {'met' if ratio <= 1 else 'MISSED'}")
+    print(f"{rows} archived rows: a first put with a budget counts all bytes: {median['wide', 'first']:9.0f} us, and without one {median['none', 'first']:9.0f} us")
+
+
 if __name__ == "__main__":
     verb, *words = sys.argv[1:]
-    {"make": make, "run": run, "tell": tell}[verb](words[0], *map(int, words[1:]))
+    {"make": make, "archived": archived, "run": run, "tell": tell, "budget": budget}[verb](words[0], *map(int, words[1:]))
