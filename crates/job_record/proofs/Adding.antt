@@ -8,21 +8,18 @@ use Rattle.sqlite.specs.Order.{Row as Columns}
 use Rattle.sqlite.specs.declared.error.Error.{Error}
 use Rattle.sqlite.specs.State.{State, HasCleanDisk, Survives, Executes, ExecutesInside}
 use Rattle.sqlite.specs.Held.{Held, state}
+use Rattle.sqlite_rules.specs.Lists.{Has}
 use Rattle.job_record.specs.declared.fault.RecordFault.{RecordFault}
 use Rattle.job_record.specs.declared.fault.RecordFault.TheVariants.{Store}
 use Rattle.job_record.specs.Columns.{Misreads}
 use Rattle.job_record.specs.Archives.{add_text, archive_params}
-use Rattle.job_record.specs.Opening.{HasBytes, HasNoBytes, AddsAll}
-use Rattle.job_record.specs.inner.Inside.{GoesOn}
+use Rattle.job_record.specs.Opening.{HasBytes, HasNoBytes, AddsAll, migrate_texts}
+use Rattle.job_record.specs.inner.Inside.{GoesOn, GoesTo}
 use Rattle.job_record.specs.inner.Opened.{CannotAdd, AddsOrFails}
 use Rattle.job_record.proofs.Chain.{was_clean, nothing_then, goes_then, goes_keeps, keeps_then}
 use Rattle.job_record.proofs.Stepping.{goes_on}
+use Rattle.job_record.proofs.Traced.{executed, not_executed, blamed_then, goes_none, goes_then as goes_to}
 use Rattle.job_record.proofs.Undone.{kept_inside}
-
-cannot_of : (rows : List Columns) (fault : RecordFault) → Misreads (Any HasNoBytes rows) fault → CannotAdd rows fault
-cannot_of rows fault (inl memory) = subst (CannotAdd rows) (sym memory) tt
-cannot_of rows fault (inr (inl store)) = subst (CannotAdd rows) (sym store) tt
-cannot_of rows fault (inr (inr unread)) = subst (CannotAdd rows) (sym unread.0) unread.1
 
 stands : (s : State) → Survives s s (λ _. ⊥)
 stands s = record { clean = omega arith; shield = λ it. it; counts = omega arith; limit = refl; closes = λ clean open_now. inl open_now; crash = λ clean db may. inl may }
@@ -34,7 +31,16 @@ params_are key bytes used count same = ap (λ n. Text key ∷ Int (pos (min byte
 abbrev most : ℕ
 most = 2 ^ 64 - 1
 
+-- it is one of the migration's statements
+adds : Has migrate_texts add_text
+adds = inr (inr (inl refl))
+
 module _ {S : Type 0} (g : Ghosts S) where
+  cannot_of : (at : Held S) (rows : List Columns) (fault : RecordFault) → Misreads (Any HasNoBytes rows) fault → CannotAdd g at rows fault
+  cannot_of at rows fault (inl memory) = subst (CannotAdd g at rows) (sym memory) tt
+  cannot_of at rows fault (inr (inl store)) = subst (CannotAdd g at rows) (sym store) (inl refl)
+  cannot_of at rows fault (inr (inr unread)) = subst (CannotAdd g at rows) (sym unread.0) unread.1
+
   adds_more : (at now next : Held S) (used : ℕ) (all : List Columns) (c : Columns) (n : ℕ) (key : List ℕ) (bytes : ℕ) → AddsAll g at now used all → HasBytes c key bytes
       → Executes add_text (archive_params key bytes (used + length all + 1)) (state g now) (state g next) (Ok n) → AddsAll g at next used (all ++ c ∷ [])
   adds_more at now next used [] c n key bytes same has ran =
@@ -48,19 +54,19 @@ module _ {S : Type 0} (g : Ghosts S) where
   pub record HasAdded (old now : Held S) (all : List Columns) (used : ℕ) : Type 0 where
     pub survives : Survives (state g old) (state g now) (λ _. ⊥)
     pub used_is : used ≡ min (length all) most
-    pub adds : HasCleanDisk (state g now) → IsTrue (state g old).in_transaction → IsTrue (state g old).is_open → AddsAll g old now 0 all × GoesOn (state g old) (state g now)
+    pub adds : HasCleanDisk (state g now) → IsTrue (state g old).in_transaction → IsTrue (state g old).is_open → AddsAll g old now 0 all × GoesOn (state g old) (state g now) × GoesTo g migrate_texts old now
 
   pub adding_starts : (old : Held S) → HasAdded old old [] 0
   adding_starts old = record {
     survives = stands (state g old);
     used_is = omega arith;
-    adds = λ clean going open_now. (refl, record { was_open = open_now; is_open = open_now; committed = refl; going = going });
+    adds = λ clean going open_now. (refl, record { was_open = open_now; is_open = open_now; committed = refl; going = going }, goes_none g migrate_texts old going);
   }
 
   module _ (old now next : Held S) (all : List Columns) (used : ℕ) (h : HasAdded old now all used) where
     -- a row does not read
     pub row_fails : (rows : List Columns) (fault : RecordFault) → Misreads (Any HasNoBytes rows) fault → HasCleanDisk (state g now) → IsTrue (state g old).in_transaction → IsTrue (state g old).is_open → AddsOrFails g old now rows (Err fault)
-    row_fails rows fault unread clean going open_now = (goes_keeps (state g old) (state g now) (h.adds clean going open_now).1, cannot_of rows fault unread)
+    row_fails rows fault unread clean going open_now = (goes_keeps (state g old) (state g now) (h.adds clean going open_now).1, cannot_of old rows fault unread)
 
     module _ (key : List ℕ) (bytes again : ℕ) (survives : Survives (state g now) (state g next) (λ _. ⊥)) where
       pub both_survive : Survives (state g old) (state g next) (λ _. ⊥)
@@ -70,8 +76,11 @@ module _ {S : Type 0} (g : Ghosts S) where
       pub add_fails : (rows : List Columns) (e : Error) → (HasCleanDisk (state g next) → IsTrue (state g now).in_transaction → ExecutesInside 0 add_text (archive_params key bytes again) (state g now) (state g next) (Err e))
           → HasCleanDisk (state g next) → IsTrue (state g old).in_transaction → IsTrue (state g old).is_open → AddsOrFails g old next rows (Err (Store e))
       add_fails rows e ran clean going open_now =
-          let before = (h.adds (was_clean (state g now) (state g next) _ survives clean) going open_now).1 in
-          (keeps_then (state g old) (state g now) (state g next) (goes_keeps (state g old) (state g now) before) (kept_inside add_text (archive_params key bytes again) (state g now) (state g next) e (ran clean before.going)), tt)
+          let before = h.adds (was_clean (state g now) (state g next) _ survives clean) going open_now in
+          let refused = ran clean before.1.going in (
+            keeps_then (state g old) (state g now) (state g next) (goes_keeps (state g old) (state g now) before.1) (kept_inside add_text (archive_params key bytes again) (state g now) (state g next) e refused),
+            blamed_then g migrate_texts old now (Store e) before.2 (λ on. not_executed g migrate_texts add_text adds (archive_params key bytes again) now next e refused),
+          )
 
       pub adds_one : (c : Columns) (n : ℕ) → HasBytes c key bytes → again ≡ min (used + 1) most
           → (HasCleanDisk (state g next) → IsTrue (state g now).in_transaction → ExecutesInside 0 add_text (archive_params key bytes again) (state g now) (state g next) (Ok n)) → HasAdded old next (all ++ c ∷ []) again
@@ -83,8 +92,11 @@ module _ {S : Type 0} (g : Ghosts S) where
             let it = ran clean before.1.going in
             let low : used ≡ min (length all) most = h.used_is in
             let same : min again (2 ^ 63 - 1) ≡ min (0 + length all + 1) (2 ^ 63 - 1) = omega (arith, is, low) in
-            let exact = subst (λ p. Executes add_text p (state g now) (state g next) (Ok n)) (params_are key bytes again (0 + length all + 1) same) it.0 in
-            (adds_more old now next 0 all c n key bytes before.0 has exact, goes_then (state g old) (state g now) (state g next) before.1 (goes_on add_text (archive_params key bytes again) (state g now) (state g next) n it));
+            let exact = subst (λ p. Executes add_text p (state g now) (state g next) (Ok n)) (params_are key bytes again (0 + length all + 1) same) it.0 in (
+              adds_more old now next 0 all c n key bytes before.0 has exact,
+              goes_then (state g old) (state g now) (state g next) before.1 (goes_on add_text (archive_params key bytes again) (state g now) (state g next) n it),
+              goes_to g migrate_texts old now next before.2 (λ on. executed g migrate_texts add_text adds (archive_params key bytes again) now next n it),
+            );
       }
 
 pub taken_more : {S : Type 0} (g : Ghosts S) (old next : Held S) (rows : List Columns) (i used : ℕ) (c : Columns) → i < length rows → c ≡ get_or rows i c → HasAdded g old next (take i rows ++ c ∷ []) used → HasAdded g old next (take (i + 1) rows) used

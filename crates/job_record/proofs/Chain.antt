@@ -10,7 +10,7 @@ use Rattle.sqlite.specs.Held.{Held, state}
 use Rattle.sqlite.proofs.Callers.{survives_begin}
 use Rattle.sqlite.proofs.StateLemmas.{survives_then, survives_weaker}
 use Rattle.job_record.specs.declared.fault.RecordFault.{RecordFault}
-use Rattle.job_record.specs.Tables.{record_schema}
+use Rattle.job_record.specs.Tables.{record_with}
 use Rattle.job_record.specs.Map.{KeyMap, HoldsMap}
 use Rattle.job_record.specs.Opening.{begun}
 use Rattle.job_record.specs.inner.Inside.{GoesOn, IsOfStore, Answer, Steps, Walks, WalksOn, Changes, LeavesBy, CrashesBy, IsStored, Spares, Ends}
@@ -105,9 +105,11 @@ walk_later P old new Given Told Why result one = (one.0, λ clean going p. one.1
 
 -- ---- a whole transaction
 
-pub left_trees : (db : Database) (trees : Trees) (map : KeyMap) → trees ≡ db.trees → HoldsMap db map → HoldsMap (record { schema = record_schema; trees = trees }) map
-left_trees db trees map same it = subst (λ t. HoldsMap (record { schema = record_schema; trees = t }) map) (sym same) (record {
+pub left_trees : (db : Database) (trees : Trees) (map : KeyMap) → trees ≡ db.trees → HoldsMap db map → HoldsMap (record { schema = record_with map.beside.schema; trees = trees }) map
+left_trees db trees map same it = subst (λ t. HoldsMap (record { schema = record_with map.beside.schema; trees = t }) map) (sym same) (record {
   schema = refl;
+  apart = it.apart;
+  beside = it.beside;
   sound = subst (λ s. IsDatabase (record { schema = s; trees = db.trees })) it.schema it.sound;
   keyed = it.keyed;
   kept = it.kept;

@@ -20,8 +20,8 @@ use Rattle.sqlite.specs.Listing.{understood, reads_listing, listing_schema}
 use Rattle.sqlite.proofs.Callers.{IsPlain, command_of, statement_of}
 use Rattle.sqlite_tied.specs.Compute.{everything}
 use Rattle.job_record.specs.Statements.{make_meta, make_job, note_version, version_text, find_text, list_text, put_text, drop_archive_text, forget_text}
-use Rattle.job_record.specs.Archives.{make_archive, look_text, greatest_text, oldest_text, bytes_text, all_bytes_text, add_text, use_text, remove_text, archived_text, renote_version}
-use Rattle.job_record.specs.Tables.{meta_at, job_at, archive_at, no_schema, first_schema, record_schema}
+use Rattle.job_record.specs.Archives.{make_archive, look_text, greatest_text, oldest_text, bytes_text, all_bytes_text, add_text, use_text, remove_text, archives_text, archived_text, renote_version}
+use Rattle.job_record.specs.Tables.{meta_at, job_at, archive_at, no_schema, first_schema, record_schema, record_with}
 
 abbrev pub query_on : ℕ → List Term → List Term → List (Term × Key) → Query
 query_on tree filter project order = record {
@@ -71,7 +71,7 @@ abbrev pub replace_tests : List Term
 replace_tests = op2 (Compare Eq Binary) (col 1 0) (col 0 5) ∷ []
 
 abbrev pub replace_project : List Term
-replace_project = col 1 0 ∷ col 1 0 ∷ col 1 1 ∷ col 0 8 ∷ col 0 9 ∷ col 0 10 ∷ col 0 11 ∷ []
+replace_project = col 1 0 ∷ col 1 0 ∷ col 1 1 ∷ col 0 1 ∷ col 0 2 ∷ col 0 3 ∷ col 0 4 ∷ []
 
 abbrev pub replace_query : Query
 replace_query = query replace_tests replace_project []
@@ -98,45 +98,45 @@ first_is = refl
 pub schema_is : created first_schema (archive_at 0) ≡ record_schema
 schema_is = refl
 
-pub find_is : (command_of (understood record_schema find_text) ≡ Select (record { lets = []; body = find_query }) names) × (reads_listing record_schema find_text ≡ false)
+pub find_is : (others : Schema) → (command_of (understood (record_with others) find_text) ≡ Select (record { lets = []; body = find_query }) names) × (reads_listing (record_with others) find_text ≡ false)
 unfolding understood everything
-find_is = (refl, refl)
+find_is others = (refl, refl)
 
-pub list_is : (command_of (understood record_schema list_text) ≡ Select (record { lets = []; body = list_query }) names) × (reads_listing record_schema list_text ≡ false)
+pub list_is : (others : Schema) → (command_of (understood (record_with others) list_text) ≡ Select (record { lets = []; body = list_query }) names) × (reads_listing (record_with others) list_text ≡ false)
 unfolding understood everything
-list_is = (refl, refl)
+list_is others = (refl, refl)
 
-pub drop_is : command_of (understood record_schema drop_archive_text) ≡ Update 1 (record { lets = []; body = drop_query })
+pub drop_is : (others : Schema) → command_of (understood (record_with others) drop_archive_text) ≡ Update 1 (record { lets = []; body = drop_query })
 unfolding understood everything
-drop_is = refl
+drop_is others = refl
 
-pub forget_is : command_of (understood record_schema forget_text) ≡ Delete 1 (record { lets = []; body = forget_query })
+pub forget_is : (others : Schema) → command_of (understood (record_with others) forget_text) ≡ Delete 1 (record { lets = []; body = forget_query })
 unfolding understood everything
-forget_is = refl
+forget_is others = refl
 
-pub put_is : command_of (understood record_schema put_text) ≡ put_command
+pub put_is : (others : Schema) → command_of (understood (record_with others) put_text) ≡ put_command
 unfolding understood everything
-put_is = refl
+put_is others = refl
 
-pub find_plain : IsPlain (understood record_schema find_text)
+pub find_plain : (others : Schema) → IsPlain (understood (record_with others) find_text)
 unfolding understood everything
-find_plain = (refl, refl)
+find_plain others = (refl, refl)
 
-pub list_plain : IsPlain (understood record_schema list_text)
+pub list_plain : (others : Schema) → IsPlain (understood (record_with others) list_text)
 unfolding understood everything
-list_plain = (refl, refl)
+list_plain others = (refl, refl)
 
-pub drop_plain : IsPlain (understood record_schema drop_archive_text)
+pub drop_plain : (others : Schema) → IsPlain (understood (record_with others) drop_archive_text)
 unfolding understood everything
-drop_plain = (refl, refl)
+drop_plain others = (refl, refl)
 
-pub forget_plain : IsPlain (understood record_schema forget_text)
+pub forget_plain : (others : Schema) → IsPlain (understood (record_with others) forget_text)
 unfolding understood everything
-forget_plain = (refl, refl)
+forget_plain others = (refl, refl)
 
-pub put_plain : IsPlain (understood record_schema put_text)
+pub put_plain : (others : Schema) → IsPlain (understood (record_with others) put_text)
 unfolding understood everything
-put_plain = (refl, refl)
+put_plain others = (refl, refl)
 
 -- ---- the statements on the archives
 
@@ -158,61 +158,61 @@ use_project = col 1 0 ∷ col 1 0 ∷ col 1 1 ∷ col 1 2 ∷ col 0 1 ∷ []
 abbrev pub add_row : List Term
 add_row = lit Null ∷ col 0 0 ∷ col 0 1 ∷ col 0 2 ∷ []
 
-pub greatest_is : (command_of (understood record_schema greatest_text) ≡ Select (record { lets = []; body = greatest_query }) (codes "used" ∷ [])) × (reads_listing record_schema greatest_text ≡ false)
+pub greatest_is : (others : Schema) → (command_of (understood (record_with others) greatest_text) ≡ Select (record { lets = []; body = greatest_query }) (codes "used" ∷ [])) × (reads_listing (record_with others) greatest_text ≡ false)
 unfolding understood everything
-greatest_is = (refl, refl)
+greatest_is others = (refl, refl)
 
-pub greatest_plain : IsPlain (understood record_schema greatest_text)
+pub greatest_plain : (others : Schema) → IsPlain (understood (record_with others) greatest_text)
 unfolding understood everything
-greatest_plain = (refl, refl)
+greatest_plain others = (refl, refl)
 
-pub oldest_is : (command_of (understood record_schema oldest_text) ≡ Select (record { lets = []; body = oldest_query }) (codes "key" ∷ codes "bytes" ∷ [])) × (reads_listing record_schema oldest_text ≡ false)
+pub oldest_is : (others : Schema) → (command_of (understood (record_with others) oldest_text) ≡ Select (record { lets = []; body = oldest_query }) (codes "key" ∷ codes "bytes" ∷ [])) × (reads_listing (record_with others) oldest_text ≡ false)
 unfolding understood everything
-oldest_is = (refl, refl)
+oldest_is others = (refl, refl)
 
-pub oldest_plain : IsPlain (understood record_schema oldest_text)
+pub oldest_plain : (others : Schema) → IsPlain (understood (record_with others) oldest_text)
 unfolding understood everything
-oldest_plain = (refl, refl)
+oldest_plain others = (refl, refl)
 
-pub bytes_is : (command_of (understood record_schema bytes_text) ≡ Select (record { lets = []; body = bytes_query }) (codes "bytes" ∷ [])) × (reads_listing record_schema bytes_text ≡ false)
+pub bytes_is : (others : Schema) → (command_of (understood (record_with others) bytes_text) ≡ Select (record { lets = []; body = bytes_query }) (codes "bytes" ∷ [])) × (reads_listing (record_with others) bytes_text ≡ false)
 unfolding understood everything
-bytes_is = (refl, refl)
+bytes_is others = (refl, refl)
 
-pub bytes_plain : IsPlain (understood record_schema bytes_text)
+pub bytes_plain : (others : Schema) → IsPlain (understood (record_with others) bytes_text)
 unfolding understood everything
-bytes_plain = (refl, refl)
+bytes_plain others = (refl, refl)
 
-pub all_bytes_is : (command_of (understood record_schema all_bytes_text) ≡ Select (record { lets = []; body = all_bytes_query }) (codes "bytes" ∷ [])) × (reads_listing record_schema all_bytes_text ≡ false)
+pub all_bytes_is : (others : Schema) → (command_of (understood (record_with others) all_bytes_text) ≡ Select (record { lets = []; body = all_bytes_query }) (codes "bytes" ∷ [])) × (reads_listing (record_with others) all_bytes_text ≡ false)
 unfolding understood everything
-all_bytes_is = (refl, refl)
+all_bytes_is others = (refl, refl)
 
-pub all_bytes_plain : IsPlain (understood record_schema all_bytes_text)
+pub all_bytes_plain : (others : Schema) → IsPlain (understood (record_with others) all_bytes_text)
 unfolding understood everything
-all_bytes_plain = (refl, refl)
+all_bytes_plain others = (refl, refl)
 
-pub add_is : command_of (understood record_schema add_text) ≡ Insert 2 (Values add_row 4)
+pub add_is : (others : Schema) → command_of (understood (record_with others) add_text) ≡ Insert 2 (Values add_row 4)
 unfolding understood everything
-add_is = refl
+add_is others = refl
 
-pub add_plain : IsPlain (understood record_schema add_text)
+pub add_plain : (others : Schema) → IsPlain (understood (record_with others) add_text)
 unfolding understood everything
-add_plain = (refl, refl)
+add_plain others = (refl, refl)
 
-pub use_is : command_of (understood record_schema use_text) ≡ Update 2 (record { lets = []; body = query_on 4 has_key use_project [] })
+pub use_is : (others : Schema) → command_of (understood (record_with others) use_text) ≡ Update 2 (record { lets = []; body = query_on 4 has_key use_project [] })
 unfolding understood everything
-use_is = refl
+use_is others = refl
 
-pub use_plain : IsPlain (understood record_schema use_text)
+pub use_plain : (others : Schema) → IsPlain (understood (record_with others) use_text)
 unfolding understood everything
-use_plain = (refl, refl)
+use_plain others = (refl, refl)
 
-pub remove_is : command_of (understood record_schema remove_text) ≡ Delete 2 (record { lets = []; body = query_on 4 has_key forget_project [] })
+pub remove_is : (others : Schema) → command_of (understood (record_with others) remove_text) ≡ Delete 2 (record { lets = []; body = query_on 4 has_key forget_project [] })
 unfolding understood everything
-remove_is = refl
+remove_is others = refl
 
-pub remove_plain : IsPlain (understood record_schema remove_text)
+pub remove_plain : (others : Schema) → IsPlain (understood (record_with others) remove_text)
 unfolding understood everything
-remove_plain = (refl, refl)
+remove_plain others = (refl, refl)
 
 -- ---- the statements that make the tables, each on the schema that the one before it leaves
 
@@ -269,17 +269,17 @@ pub note_plain : IsPlain (understood record_schema note_version)
 unfolding understood everything
 note_plain = (refl, refl)
 
-pub version_plain : IsPlain (understood record_schema version_text)
+pub version_plain : (others : Schema) → IsPlain (understood (record_with others) version_text)
 unfolding understood everything
-version_plain = (refl, refl)
+version_plain others = (refl, refl)
 
 pub look_absent : understood first_schema look_text ≡ Err NoSuchTable
 unfolding understood listing_schema everything
 look_absent = refl
 
-pub look_plain : IsPlain (understood record_schema look_text)
+pub look_plain : (others : Schema) → IsPlain (understood (record_with others) look_text)
 unfolding understood everything
-look_plain = (refl, refl)
+look_plain others = (refl, refl)
 
 pub version_first : IsPlain (understood first_schema version_text)
 unfolding understood everything
@@ -329,3 +329,23 @@ version_is = (refl, refl)
 pub version_absent : understood no_schema version_text ≡ Err NoSuchTable
 unfolding understood listing_schema everything
 version_absent = refl
+
+-- ---- all archives
+
+abbrev pub archives_project : List Term
+archives_project = col 1 1 ∷ col 1 2 ∷ col 1 3 ∷ []
+
+abbrev pub archives_query : Query
+archives_query = query_on 4 [] archives_project ((col 1 3, ascending Binary) ∷ [])
+
+pub archives_is : (others : Schema) → (command_of (understood (record_with others) archives_text) ≡ Select (record { lets = []; body = archives_query }) (codes "key" ∷ codes "bytes" ∷ codes "used" ∷ [])) × (reads_listing (record_with others) archives_text ≡ false)
+unfolding understood everything
+archives_is others = (refl, refl)
+
+pub archives_plain : (others : Schema) → IsPlain (understood (record_with others) archives_text)
+unfolding understood everything
+archives_plain others = (refl, refl)
+
+pub archives_absent : understood first_schema archives_text ≡ Err NoSuchTable
+unfolding understood listing_schema everything
+archives_absent = refl

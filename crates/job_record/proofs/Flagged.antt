@@ -72,7 +72,7 @@ within_limit n h = elim (let_through (is_eq (int_cmp n (pos 0))) (is_eq (int_cmp
 ]
 
 checked : (db : Database) → AreTables db → (r : Row) → Has (db.trees 2) r → passes_checks (job_at 2) r ≡ true
-checked db it r there = let checks = rw it.schema at (it.sound.obeys.rules Check) in all_has _ (db.trees 2) r checks.1.0 there
+checked db it r there = let checks = rw it.schema.is at (it.sound.obeys.rules Check) in all_has _ (db.trees 2) r checks.1.0 there
 
 limit_of : (id : Value) (k o f : List ℕ) (m n : ℤ) → passes_checks (job_at 2) (id ∷ Text k ∷ Text o ∷ Text f ∷ Int m ∷ Int n ∷ []) ≡ true → not (is_false (one_or_none n)) ≡ true
 limit_of id k o f m n passed = (and_parts _ _ (and_parts _ _ passed).1).0

@@ -29,7 +29,7 @@ use Rattle.job_record.proofs.Shapes.{laid_in}
 
 checked : (db : Database) → AreTables db → (r : Columns) → Has (db.trees 2) r → passes_checks (job_at 2) r ≡ true
 checked db it r there =
-    let checks = rw it.schema at (it.sound.obeys.rules Check) in all_has _ (db.trees 2) r checks.1.0 there
+    let checks = rw it.schema.is at (it.sound.obeys.rules Check) in all_has _ (db.trees 2) r checks.1.0 there
 
 abbrev most : ℕ
 most = 2 ^ 63 - 1

@@ -7,6 +7,7 @@ use Rattle.sqlite.specs.declared.types.Value.TheVariants.{Int, Text}
 use Rattle.sqlite.specs.Order.{Row, column}
 use Rattle.sqlite.specs.Tree.{Trees, rowid}
 use Rattle.sqlite_trees.specs.Tree.{IsTable}
+use Rattle.sqlite.specs.Schema.{Schema}
 use Rattle.sqlite.specs.Term.{eval_all}
 use Rattle.sqlite.specs.Cast.{cast_row}
 use Rattle.sqlite.specs.Edit.{Edit, Applies}
@@ -17,26 +18,35 @@ use Rattle.sqlite.specs.Command.TheVariants.{Update, Delete}
 use Rattle.sqlite.specs.Does.{Does}
 use Rattle.sqlite.specs.State.{State, mode_of, Executes}
 use Rattle.sqlite.proofs.Callers.{runs_as, statement_of}
-use Rattle.job_record.specs.Tables.{job_at, record_schema}
+use Rattle.job_record.specs.Tables.{job_at, record_with}
 use Rattle.job_record.specs.Statements.{drop_archive_text, forget_text}
 use Rattle.job_record.specs.Keyed.{held_in, IsKeyed}
 use Rattle.job_record.specs.Map.{unarchived}
 use Rattle.job_record.proofs.Compiled.{has_key, drop_project, drop_query, forget_project, forget_query, drop_is, drop_plain, forget_is, forget_plain}
+use Rattle.job_record.proofs.Beside.{job_idle}
 use Rattle.job_record.proofs.KeyTest.{same_text}
 use Rattle.job_record.proofs.Shapes.{Laid, laid_in}
 use Rattle.job_record.proofs.Shown.{AreShown}
 use Rattle.job_record.proofs.Edits.{cast_int}
-use Rattle.job_record.proofs.Standing.{AreTables, job_idle, job_texts, job_alone, MeetsKey}
-use Rattle.job_record.proofs.Writing.{updated, deleted, update_edit, delete_edit}
+use Rattle.job_record.proofs.Standing.{AreTables, KeepsOthers, again, job_texts, job_alone, others_kept, MeetsKey}
+use Rattle.job_record.proofs.Writing.{IsIdle, updated, deleted, update_edit, delete_edit}
 use Rattle.job_record.proofs.OneKey.{Only, only, lacks, found_is, replaces, replaced_count, sets_key, clears}
 
--- the rows of the jobs become these, and the archives stand
+-- the rows of the jobs become these, and each other table stands
 pub record Wrote (old new : Database) (rows : List ℕ → Option Row) : Type 0 where
   pub tables : AreTables new
   pub rows_are : (k : List ℕ) → held_in (new.trees 2) k ≡ rows k
   pub archives_are : new.trees 4 ≡ old.trees 4
+  pub schema_is : new.schema ≡ old.schema
+  pub others_are : KeepsOthers 2 old new
 
 module _ (old new : State) (key : List ℕ) (it : AreTables old.now) where
+  abbrev schema : Schema
+  schema = record_with it.schema.others
+
+  idle : IsIdle schema (job_at 2)
+  idle = job_idle it.schema.others it.schema.apart
+
   abbrev params : Row
   params = Text key ∷ []
 
@@ -50,17 +60,19 @@ module _ (old new : State) (key : List ℕ) (it : AreTables old.now) where
 
   pub forgets : (count : ℕ) → Executes forget_text params old new (Ok count) → Wrote old.now new.now (λ k. if bytes_eq k key then None else was k) × MeetsKey count (was key)
   forgets count h =
-      let w = runs_as forget_text params old new record_schema it.schema _ forget_is forget_plain count h in
-      let text = statement_of forget_text (understood record_schema forget_text) in
-      let does = subst (λ s. Does old.step_limit (mode_of old) params (record old.now { schema = s }) text None (Delete 1 (record { lets = []; body = forget_query })) (Ok (w.tally, new.now))) it.schema w.changed in
-      let d = deleted record_schema (job_at 2) job_idle old.step_limit (mode_of old) params db has_key forget_project 1 w.tally new.now does in
-      let c = clears record_schema (job_at 2) db it.keyed (job_texts old.now it) key new.now.trees d.rows d.shown d.applies in
-      let four = job_alone db new.now.trees (delete_edit record_schema (job_at 2) job_idle old.step_limit (mode_of old) params db has_key forget_project d.rows) refl d.applies in
+      let w = runs_as forget_text params old new schema it.schema.is _ (forget_is it.schema.others) (forget_plain it.schema.others) count h in
+      let text = statement_of forget_text (understood schema forget_text) in
+      let does = subst (λ s. Does old.step_limit (mode_of old) params (record old.now { schema = s }) text None (Delete 1 (record { lets = []; body = forget_query })) (Ok (w.tally, new.now))) it.schema.is w.changed in
+      let d = deleted schema (job_at 2) idle old.step_limit (mode_of old) params db has_key forget_project 1 w.tally new.now does in
+      let c = clears schema (job_at 2) db it.keyed (job_texts old.now it) key new.now.trees d.rows d.shown d.applies in
+      let four = job_alone it.schema.others db new.now.trees (delete_edit schema (job_at 2) idle old.step_limit (mode_of old) params db has_key forget_project d.rows) refl d.applies in
       let number = w.counted ∙ ap (λ o. unwrap_or o 0) d.count_is in (
         record {
-          tables = record { schema = d.schema_is; sound = w.sound; keyed = c.0; kept = subst IsKeyed (sym four) it.kept; ordered = subst IsTable (sym four) it.ordered };
+          tables = record { schema = again old.now.schema it.schema new.now.schema d.schema_is; sound = w.sound; keyed = c.0; kept = subst IsKeyed (sym four) it.kept; ordered = subst IsTable (sym four) it.ordered };
           rows_are = c.1;
           archives_are = four;
+          schema_is = d.schema_is ∙ sym it.schema.is;
+          others_are = others_kept old.now new.now it.schema (delete_edit schema (job_at 2) idle old.step_limit (mode_of old) params db has_key forget_project d.rows) d.applies;
         },
         subst (λ n. MeetsKey n (was key)) (sym number) c.2,
       )
@@ -93,7 +105,7 @@ module _ (old new : State) (key : List ℕ) (it : AreTables old.now) where
   id_kept r laid id = refl
 
   abbrev edit : List Row → Edit
-  edit = update_edit record_schema (job_at 2) job_idle old.step_limit (mode_of old) params db has_key drop_project
+  edit = update_edit schema (job_at 2) idle old.step_limit (mode_of old) params db has_key drop_project
 
   flagged : (c : Row) (k : List ℕ) → was key ≡ Some c → (if bytes_eq k key then Some (unarchived c) else was k) ≡ (if bytes_eq k key then option_map unarchived (was k) else was k)
   flagged c k is = elim (cases_Bool (bytes_eq k key)) [ inl same ↦ rw (same, same_text k key same, is) refl | inr other ↦ rw other refl ]
@@ -104,7 +116,7 @@ module _ (old new : State) (key : List ℕ) (it : AreTables old.now) where
   abbrev Drops : List Row → Type 0
   Drops rows = IsKeyed (new.now.trees 2) × ((k : List ℕ) → held_in (new.now.trees 2) k ≡ if bytes_eq k key then option_map unarchived (was k) else was k) × MeetsKey (length (edit rows).news) (was key)
 
-  dropped : (rows : List Row) → AreShown has_key drop_project (db 2) params rows → Applies record_schema Enforced db (edit rows) new.now.trees → Drops rows
+  dropped : (rows : List Row) → AreShown has_key drop_project (db 2) params rows → Applies schema Enforced db (edit rows) new.now.trees → Drops rows
   dropped [] shown applies =
       let none = lacks (db 2) it.keyed (job_texts old.now it) key [] drop_project shown in
       (subst IsKeyed (sym applies.rows) it.keyed, (λ k. ap (λ rows. held_in rows k) applies.rows ∙ unflagged k none), inl (refl, none))
@@ -117,27 +129,29 @@ module _ (old new : State) (key : List ℕ) (it : AreTables old.now) where
       let at = key_kept o.row laid o.id o.key_is in
       let id = id_kept o.row laid o.id in
       let rest = drop 1 drop_project in
-      let r = replaces record_schema (job_at 2) db it.keyed texts key new.now.trees params rest x more o applies made is at id in
-      let sets = sets_key record_schema (job_at 2) db it.keyed texts key new.now.trees params rest x more o applies made is at id in
+      let r = replaces schema (job_at 2) db it.keyed texts key new.now.trees params rest x more o applies made is at id in
+      let sets = sets_key schema (job_at 2) db it.keyed texts key new.now.trees params rest x more o applies made is at id in
       let found = found_is (db 2) it.keyed texts key params drop_project x more o in (
         r.1,
         λ k. sets k ∙ ap (λ (c : Row). if bytes_eq k key then Some c else was k) (unarchived_is o.row laid o.id) ∙ flagged (drop 1 o.row) k found,
-        inr (_, replaced_count record_schema (job_at 2) db it.keyed texts key new.now.trees params rest x more o applies made is at id, drop 1 o.row, found),
+        inr (_, replaced_count schema (job_at 2) db it.keyed texts key new.now.trees params rest x more o applies made is at id, drop 1 o.row, found),
       )
 
   pub drops : (count : ℕ) → Executes drop_archive_text params old new (Ok count) → Wrote old.now new.now (λ k. if bytes_eq k key then option_map unarchived (was k) else was k) × MeetsKey count (was key)
   drops count h =
-      let w = runs_as drop_archive_text params old new record_schema it.schema _ drop_is drop_plain count h in
-      let text = statement_of drop_archive_text (understood record_schema drop_archive_text) in
-      let does = subst (λ s. Does old.step_limit (mode_of old) params (record old.now { schema = s }) text None (Update 1 (record { lets = []; body = drop_query })) (Ok (w.tally, new.now))) it.schema w.changed in
-      let u = updated record_schema (job_at 2) job_idle old.step_limit (mode_of old) params db has_key drop_project 1 w.tally new.now does in
+      let w = runs_as drop_archive_text params old new schema it.schema.is _ (drop_is it.schema.others) (drop_plain it.schema.others) count h in
+      let text = statement_of drop_archive_text (understood schema drop_archive_text) in
+      let does = subst (λ s. Does old.step_limit (mode_of old) params (record old.now { schema = s }) text None (Update 1 (record { lets = []; body = drop_query })) (Ok (w.tally, new.now))) it.schema.is w.changed in
+      let u = updated schema (job_at 2) idle old.step_limit (mode_of old) params db has_key drop_project 1 w.tally new.now does in
       let d = dropped u.rows u.shown u.applies in
-      let four = job_alone db new.now.trees (edit u.rows) refl u.applies in
+      let four = job_alone it.schema.others db new.now.trees (edit u.rows) refl u.applies in
       let number = w.counted ∙ ap (λ o. unwrap_or o 0) u.count_is in (
         record {
-          tables = record { schema = u.schema_is; sound = w.sound; keyed = d.0; kept = subst IsKeyed (sym four) it.kept; ordered = subst IsTable (sym four) it.ordered };
+          tables = record { schema = again old.now.schema it.schema new.now.schema u.schema_is; sound = w.sound; keyed = d.0; kept = subst IsKeyed (sym four) it.kept; ordered = subst IsTable (sym four) it.ordered };
           rows_are = d.1;
           archives_are = four;
+          schema_is = u.schema_is ∙ sym it.schema.is;
+          others_are = others_kept old.now new.now it.schema (edit u.rows) u.applies;
         },
         subst (λ n. MeetsKey n (was key)) (sym number) d.2,
       )

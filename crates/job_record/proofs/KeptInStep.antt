@@ -14,6 +14,7 @@ use Rattle.job_record.proofs.ArchiveList.{or_none, has_append, has_other, withou
 use Rattle.job_record.proofs.Losing.{or_second, own_kept, other_kept}
 use Rattle.job_record.proofs.RowMap.{row_held}
 use Rattle.job_record.proofs.Shapes.{laid_in}
+use Rattle.job_record.proofs.Standing.{tables_of}
 
 -- the columns of a row, of which the last is its flag
 pub record Literal (c : Columns) : Type 0 where
@@ -27,7 +28,7 @@ pub record Literal (c : Columns) : Type 0 where
 pub literal_of : (db : Database) (map : KeyMap) → HoldsMap db map → (key : List ℕ) (c : Columns) → map.rows key ≡ Some c → Literal c
 literal_of db map it key c h =
     let r = row_held (db.trees 2) key c (it.rows key ∙ h) in
-    let laid = laid_in db it.schema it.sound r.0 r.1 in
+    let laid = laid_in db (tables_of db map it).schema it.sound r.0 r.1 in
     record {
       key = laid.key;
       outputs = laid.outputs;

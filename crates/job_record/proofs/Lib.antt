@@ -2,10 +2,12 @@ mod Added
 mod Adding
 mod After
 mod Answered
-mod ArchiveList
+pub mod ArchiveList
 mod ArchiveOrder
 mod ArchiveRows
+mod ArchivesHeld
 mod Asked
+mod Beside
 mod BytesRead
 mod Chain
 mod Compiled
@@ -24,7 +26,7 @@ mod KeyedRows
 mod KeysHeld
 mod Looked
 mod Looking
-mod Losing
+pub mod Losing
 mod Made
 mod MapSteps
 mod Migrated
@@ -41,6 +43,7 @@ mod QueriedInside
 mod Queries
 mod Reading
 mod Renoted
+mod RisingUses
 mod RowMap
 mod RowsRead
 mod Safe

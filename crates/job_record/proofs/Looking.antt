@@ -33,7 +33,7 @@ use Rattle.job_rows.specs.Map.{is_of, has_archive, greatest_used, total_bytes, g
 use Rattle.job_rows.specs.InStep.{AreRising}
 use Rattle.job_record.specs.declared.fault.RecordFault.{RecordFault}
 use Rattle.job_record.specs.declared.fault.RecordFault.TheVariants as fault
-use Rattle.job_record.specs.Tables.{record_schema}
+use Rattle.job_record.specs.Tables.{record_with}
 use Rattle.job_record.specs.Statements.{key_params}
 use Rattle.job_record.specs.Keyed.{held_in}
 use Rattle.job_record.specs.Archives.{greatest_text, oldest_text, bytes_text, all_bytes_text, archive_columns}
@@ -156,14 +156,14 @@ row_from [] c some is = absurd (omega (arith, some, ap length is))
 row_from (v ∷ r) c some is = ap (λ (l : Row). v ∷ l) is
 
 module _ (old : State) (map : KeyMap) (it : HoldsMap old.now map) where
-  abbrev table : List Row
+  abbrev pub table : List Row
   table = old.now.trees 4
 
   archives : IsListOf (held_in table) map.archives
   archives = list_of table map.archives it.archives
 
   -- each row is that of an archive, and each archive has a row
-  row_archive : (r : Row) → Has table r → (a : Archive) × Has map.archives a × (r ≡ column r 0 ∷ archive_columns a)
+  pub row_archive : (r : Row) → Has table r → (a : Archive) × Has map.archives a × (r ≡ column r 0 ∷ archive_columns a)
   row_archive r there =
       let k = archive_texts old.now (tables_of old.now map it) r there in
       let held = held_row table k.0 it.kept.keys r there k.1 in
@@ -183,8 +183,8 @@ module _ (key : List ℕ) (old new : State) where
   bytes_told c h map it =
       let t = tables_of old.now map it in
       let texts = archive_texts old.now t in
-      let u = row_same bytes_text (key_params key) old new (subst (λ s. IsPlain (understood s bytes_text)) (sym it.schema) bytes_plain) c h in
-      let got = (first_as bytes_text (key_params key) old new record_schema it.schema _ bytes_is.0 bytes_plain bytes_is.1 c h).1 in
+      let u = row_same bytes_text (key_params key) old new (subst (λ s. IsPlain (understood s bytes_text)) (sym it.schema) (bytes_plain map.beside.schema)) c h in
+      let got = (first_as bytes_text (key_params key) old new (record_with map.beside.schema) it.schema _ (bytes_is map.beside.schema).0 (bytes_plain map.beside.schema) (bytes_is map.beside.schema).1 c h).1 in
       let shown = shown_rows 4 has_key (col 1 2 ∷ []) [] old.now.trees (key_params key) (c ∷ got.0) got.1 in
       let o = only (old.now.trees 4) it.kept texts key [] (col 1 2 ∷ []) c got.0 shown in
       let found = found_is (old.now.trees 4) it.kept texts key (key_params key) (col 1 2 ∷ []) c got.0 o in
@@ -199,7 +199,7 @@ module _ (key : List ℕ) (old new : State) where
   bytes_none : Shown bytes_text (key_params key) old new [] → (map : KeyMap) → HoldsMap old.now map → None ≡ bytes_at key map
   bytes_none h map it =
       let t = tables_of old.now map it in
-      let read = reads_as bytes_text (key_params key) old new record_schema it.schema _ bytes_is.0 bytes_plain bytes_is.1 [] h in
+      let read = reads_as bytes_text (key_params key) old new (record_with map.beside.schema) it.schema _ (bytes_is map.beside.schema).0 (bytes_plain map.beside.schema) (bytes_is map.beside.schema).1 [] h in
       let none = lacks (old.now.trees 4) it.kept (archive_texts old.now t) key [] (col 1 2 ∷ []) (shown_rows 4 has_key (col 1 2 ∷ []) [] old.now.trees (key_params key) [] read.answer) in
       sym (ap (option_map (λ (archive : Archive). archive.bytes)) (find_none key map.archives (columns_none _ map.archives (archives old map it) key none)))
 
@@ -214,8 +214,8 @@ module _ (key : List ℕ) (old new : State) where
   bytes_absent going (inl h) = (
     none_goes bytes_text (key_params key) old new going (inl h),
     λ map it given.
-        let shown = no_rows bytes_text (key_params key) old new record_schema it.schema _ _ bytes_is.0 bytes_plain h in
-        let u = shown_same bytes_text (key_params key) old new (subst (λ s. IsPlain (understood s bytes_text)) (sym it.schema) bytes_plain) [] shown in
+        let shown = no_rows bytes_text (key_params key) old new (record_with map.beside.schema) it.schema _ _ (bytes_is map.beside.schema).0 (bytes_plain map.beside.schema) h in
+        let u = shown_same bytes_text (key_params key) old new (subst (λ s. IsPlain (understood s bytes_text)) (sym it.schema) (bytes_plain map.beside.schema)) [] shown in
         (map, subst (λ d. HoldsMap d map) (sym u.0.now_is) it, (refl, bytes_none shown map it)),
   )
   bytes_absent going (inr late) = absurd (true≢false (sym going ∙ late.3))
@@ -235,22 +235,22 @@ module _ (project : List Term) (order : List (Term × Key)) (db : Trees) (rows :
   abbrev q : Query
   q = query_on 4 [] project order
 
-  answer : IsAnswer q (overlay db []) [] rows
+  pub answer : IsAnswer q (overlay db []) [] rows
   answer = sure Null
 
-  abbrev ordered : List Output
+  abbrev pub ordered : List Output
   ordered = answer.ordered
 
   abbrev every : List (List Row)
   every = matches (overlay db []) [] (inner 4 end) ([] ∷ [])
 
-  kept_are : answer.kept ≡ map (output q) every
+  pub kept_are : answer.kept ≡ map (output q) every
   kept_are = answer.distinct ∙ ap (map (output q)) answer.grouped
 
-  shown_are : rows ≡ map (λ (o : Output). o.1) ordered
+  pub shown_are : rows ≡ map (λ (o : Output). o.1) ordered
   shown_are = answer.shown
 
-  sorted_are : IsSorted (output_cmp q) ordered
+  pub sorted_are : IsSorted (output_cmp q) ordered
   sorted_are = answer.sorted
 
   from_row : (o : Output) → Has ordered o → (r : Row) × Has (db 4) r × (o ≡ output q ([] ∷ r ∷ []))
@@ -277,7 +277,7 @@ no_archive : (xs : List Archive) → ((a : Archive) → Has xs a → ⊥) → xs
 no_archive [] none = refl
 no_archive (x ∷ xs) none = absurd (none x (inl refl))
 
-rising_above : (last : ℕ) (xs : List Archive) (a : Archive) → AreRising last xs → Has xs a → last < a.used
+pub rising_above : (last : ℕ) (xs : List Archive) (a : Archive) → AreRising last xs → Has xs a → last < a.used
 rising_above last [] a rising there = absurd there
 rising_above last (x ∷ xs) a rising (inl same) = subst (λ (z : Archive). last < z.used) (sym same) rising.0
 rising_above last (x ∷ xs) a rising (inr later) = let next : last < x.used = rising.0 in let up : x.used < a.used = rising_above x.used xs a rising.1 later in omega arith
@@ -289,21 +289,21 @@ first_is last (x ∷ xs) a rising (inl same) least = ap Some (sym same)
 first_is last (x ∷ xs) a rising (inr later) least = absurd (let up : x.used < a.used = rising_above x.used xs a rising.1 later in let low : a.used ≤ x.used = least x (inl refl) in omega arith)
 
 module _ (old : State) (map : KeyMap) (it : HoldsMap old.now map) (project : List Term) (down : Bool) (rows : List Row) where
-  abbrev order : List (Term × Key)
+  abbrev pub order : List (Term × Key)
   order = (col 1 3, record { collation = Binary; descending = down }) ∷ []
 
   module _ (sure : IsSureAnswer (query_on 4 [] project order) (overlay old.now.trees []) [] rows) where
-    abbrev outs : List Output
+    abbrev pub outs : List Output
     outs = ordered project order old.now.trees rows sure
 
     -- each output is that of an archive
-    out_archive : (o : Output) → Has outs o → (a : Archive) × Has map.archives a × (id : Value) × (o ≡ output (query_on 4 [] project order) ([] ∷ (id ∷ archive_columns a) ∷ []))
+    pub out_archive : (o : Output) → Has outs o → (a : Archive) × Has map.archives a × (id : Value) × (o ≡ output (query_on 4 [] project order) ([] ∷ (id ∷ archive_columns a) ∷ []))
     out_archive o h =
         let r = from_row project order old.now.trees rows sure o h in
         let a = row_archive old map it r.0 r.1 in
         (a.0, a.1, column r.0 0, r.2 ∙ ap (λ (z : Row). output (query_on 4 [] project order) ([] ∷ z ∷ [])) a.2)
 
-    archive_out : (a : Archive) → Has map.archives a → (id : Value) × Has outs (output (query_on 4 [] project order) ([] ∷ (id ∷ archive_columns a) ∷ []))
+    pub archive_out : (a : Archive) → Has map.archives a → (id : Value) × Has outs (output (query_on 4 [] project order) ([] ∷ (id ∷ archive_columns a) ∷ []))
     archive_out a h =
         let r = archive_row old map it a h in
         (column r.0 0, subst (λ (z : Row). Has outs (output (query_on 4 [] project order) ([] ∷ z ∷ []))) r.2 (row_in project order old.now.trees rows sure r.0 r.1))
@@ -323,8 +323,8 @@ module _ (old : State) (map : KeyMap) (it : HoldsMap old.now map) (project : Lis
 module _ (old new : State) where
   greatest_told : (c : Row) → QueriesRow greatest_text [] old new (Ok c) → (map : KeyMap) → HoldsMap old.now map → (n : ℕ) × IsTold new map c n × (n ≡ greatest_used map.archives)
   greatest_told c h map it =
-      let u = row_same greatest_text [] old new (subst (λ s. IsPlain (understood s greatest_text)) (sym it.schema) greatest_plain) c h in
-      let got = (first_as greatest_text [] old new record_schema it.schema _ greatest_is.0 greatest_plain greatest_is.1 c h).1 in
+      let u = row_same greatest_text [] old new (subst (λ s. IsPlain (understood s greatest_text)) (sym it.schema) (greatest_plain map.beside.schema)) c h in
+      let got = (first_as greatest_text [] old new (record_with map.beside.schema) it.schema _ (greatest_is map.beside.schema).0 (greatest_plain map.beside.schema) (greatest_is map.beside.schema).1 c h).1 in
       let project = col 1 3 ∷ [] in
       let os = outs old map it project true (c ∷ got.0) got.1 in
       let first = first_of c got.0 os (shown_are project (order old map it project true (c ∷ got.0)) old.now.trees (c ∷ got.0) got.1) in
@@ -350,9 +350,9 @@ module _ (old new : State) where
   greatest_none going (inl h) = (
     none_goes greatest_text [] old new going (inl h),
     λ map it given.
-        let shown = no_rows greatest_text [] old new record_schema it.schema _ _ greatest_is.0 greatest_plain h in
-        let u = shown_same greatest_text [] old new (subst (λ s. IsPlain (understood s greatest_text)) (sym it.schema) greatest_plain) [] shown in
-        let read = reads_as greatest_text [] old new record_schema it.schema _ greatest_is.0 greatest_plain greatest_is.1 [] shown in
+        let shown = no_rows greatest_text [] old new (record_with map.beside.schema) it.schema _ _ (greatest_is map.beside.schema).0 (greatest_plain map.beside.schema) h in
+        let u = shown_same greatest_text [] old new (subst (λ s. IsPlain (understood s greatest_text)) (sym it.schema) (greatest_plain map.beside.schema)) [] shown in
+        let read = reads_as greatest_text [] old new (record_with map.beside.schema) it.schema _ (greatest_is map.beside.schema).0 (greatest_plain map.beside.schema) (greatest_is map.beside.schema).1 [] shown in
         let none = none_out old map it (col 1 3 ∷ []) true [] read.answer refl in
         (map, subst (λ d. HoldsMap d map) (sym u.0.now_is) it, (refl, sym (ap greatest_used none))),
   )
@@ -369,8 +369,8 @@ module _ (old new : State) where
 
   oldest_told : (c : Row) → QueriesRow oldest_text [] old new (Ok c) → (map : KeyMap) → HoldsMap old.now map → (a : Archive) × IsOldest map c a
   oldest_told c h map it =
-      let u = row_same oldest_text [] old new (subst (λ s. IsPlain (understood s oldest_text)) (sym it.schema) oldest_plain) c h in
-      let got = (first_as oldest_text [] old new record_schema it.schema _ oldest_is.0 oldest_plain oldest_is.1 c h).1 in
+      let u = row_same oldest_text [] old new (subst (λ s. IsPlain (understood s oldest_text)) (sym it.schema) (oldest_plain map.beside.schema)) c h in
+      let got = (first_as oldest_text [] old new (record_with map.beside.schema) it.schema _ (oldest_is map.beside.schema).0 (oldest_plain map.beside.schema) (oldest_is map.beside.schema).1 c h).1 in
       let project = col 1 1 ∷ col 1 2 ∷ [] in
       let os = outs old map it project false (c ∷ got.0) got.1 in
       let first = first_of c got.0 os (shown_are project (order old map it project false (c ∷ got.0)) old.now.trees (c ∷ got.0) got.1) in
@@ -417,9 +417,9 @@ module _ (old new : State) where
   oldest_none going (inl h) = (
     none_goes oldest_text [] old new going (inl h),
     λ map it given.
-        let shown = no_rows oldest_text [] old new record_schema it.schema _ _ oldest_is.0 oldest_plain h in
-        let u = shown_same oldest_text [] old new (subst (λ s. IsPlain (understood s oldest_text)) (sym it.schema) oldest_plain) [] shown in
-        let read = reads_as oldest_text [] old new record_schema it.schema _ oldest_is.0 oldest_plain oldest_is.1 [] shown in
+        let shown = no_rows oldest_text [] old new (record_with map.beside.schema) it.schema _ _ (oldest_is map.beside.schema).0 (oldest_plain map.beside.schema) h in
+        let u = shown_same oldest_text [] old new (subst (λ s. IsPlain (understood s oldest_text)) (sym it.schema) (oldest_plain map.beside.schema)) [] shown in
+        let read = reads_as oldest_text [] old new (record_with map.beside.schema) it.schema _ (oldest_is map.beside.schema).0 (oldest_plain map.beside.schema) (oldest_is map.beside.schema).1 [] shown in
         let none = none_out old map it (col 1 1 ∷ col 1 2 ∷ []) false [] read.answer refl in
         (map, subst (λ d. HoldsMap d map) (sym u.0.now_is) it, (refl, sym (ap (λ l. option_map (λ (archive : Archive). (archive.key, archive.bytes)) (slice_get l 0)) none))),
   )
@@ -468,8 +468,8 @@ module _ (old new : State) where
   total_all all going h (Ok sum) ok err = (
     shown_goes all_bytes_text [] old new going all h,
     λ map it given.
-        let u = shown_same all_bytes_text [] old new (subst (λ s. IsPlain (understood s all_bytes_text)) (sym it.schema) all_bytes_plain) all h in
-        let read = reads_as all_bytes_text [] old new record_schema it.schema _ all_bytes_is.0 all_bytes_plain all_bytes_is.1 all h in
+        let u = shown_same all_bytes_text [] old new (subst (λ s. IsPlain (understood s all_bytes_text)) (sym it.schema) (all_bytes_plain map.beside.schema)) all h in
+        let read = reads_as all_bytes_text [] old new (record_with map.beside.schema) it.schema _ (all_bytes_is map.beside.schema).0 (all_bytes_plain map.beside.schema) (all_bytes_is map.beside.schema).1 all h in
         let sums = sums_are all map it read.answer in
         let low = total_bound _ map.archives (archives old map it) in
         (map, subst (λ d. HoldsMap d map) (sym u.0.now_is) it, (refl, ok ∙ fits (sum_in all) (total_bytes map.archives) sums low)),
@@ -482,7 +482,7 @@ module _ (old new : State) where
         goes_keeps old new goes,
         inr goes.was_open,
         λ map it given.
-            let read = reads_as all_bytes_text [] old new record_schema it.schema _ all_bytes_is.0 all_bytes_plain all_bytes_is.1 all h in
+            let read = reads_as all_bytes_text [] old new (record_with map.beside.schema) it.schema _ (all_bytes_is map.beside.schema).0 (all_bytes_plain map.beside.schema) (all_bytes_is map.beside.schema).1 all h in
             misread_is _ f err (λ none.
             let c = any_has HasNoNumber all none in
             let n = number_columns all map it read.answer c.0 c.1 in

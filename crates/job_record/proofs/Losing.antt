@@ -112,6 +112,7 @@ loses_first map a rest is apart = λ i. record {
   rows = λ k. rows k i;
   archives = left i;
   budget = map.budget;
+  beside = map.beside;
 }
   where
     left : without_archive a.key map.archives ≡ drop 1 map.archives
@@ -122,7 +123,7 @@ loses_first map a rest is apart = λ i. record {
 
 -- one more goes
 pub loses_more : (map : KeyMap) (n : ℕ) (a : Archive) → slice_get (drop n map.archives) 0 ≡ Some a → AreApart map.archives → after_loss 1 (after_loss n map) ≡ after_loss (suc n) map
-loses_more map n a is apart = λ i. record { rows = λ k. rows k i; archives = left i; budget = map.budget }
+loses_more map n a is apart = λ i. record { rows = λ k. rows k i; archives = left i; budget = map.budget; beside = map.beside }
   where
     parts : (take (suc n) map.archives ≡ take n map.archives ++ a ∷ []) × (drop n map.archives ≡ a ∷ drop (suc n) map.archives) × (suc n ≤ length map.archives)
     parts = first_more map.archives n a is
@@ -220,7 +221,7 @@ module _ (budget : Option ℕ) (row : Row) (map : KeyMap) (within : map.budget �
 
   -- what is left once the row is set is the map with the change
   pub puts_all : after_loss (lost_in alone) alone ≡ changed_by (sets row) map
-  puts_all = λ i. record { rows = λ k. rows k i; archives = left i; budget = map.budget }
+  puts_all = λ i. record { rows = λ k. rows k i; archives = left i; budget = map.budget; beside = map.beside }
     where
       count : lost_in alone ≡ lost_count map.budget all
       count = ap (lost_count map.budget) all_are

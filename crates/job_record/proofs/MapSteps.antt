@@ -13,6 +13,7 @@ use Rattle.job_record.specs.declared.fault.RecordFault.TheVariants.{NotARecord, 
 use Rattle.job_record.specs.Statements.{find_text, list_text, key_params}
 use Rattle.job_record.specs.RecordMap.{Finds, Lists}
 use Rattle.job_record.specs.Keyed.{IsKeyed}
+use Rattle.job_record.specs.Tables.{HasRecord}
 use Rattle.job_record.specs.Map.{IsRecord, IsSame, Stands, FindsIn, ListsIn}
 use Rattle.job_record.proofs.OneRow.{row_with}
 use Rattle.job_record.proofs.RowMap.{key_held}
@@ -27,7 +28,7 @@ module _ (old new : State) (it : IsRecord old) where
   shows now committed mode = (
     now,
     record {
-      schema = ap (λ (d : Database). d.schema) now ∙ it.schema;
+      schema = subst (λ (d : Database). HasRecord d.schema) (sym now) it.schema;
       sound = subst IsDatabase (sym now) it.sound;
       keyed = subst (λ (d : Database). IsKeyed (d.trees 2)) (sym now) it.keyed;
       kept = subst (λ (d : Database). IsKeyed (d.trees 4)) (sym now) it.kept;

@@ -24,7 +24,7 @@ use Rattle.job_rows.specs.InStep.{AreApart}
 use Rattle.job_record.specs.Tables.{archive_at, first_schema, record_schema}
 use Rattle.job_record.specs.Archives.{make_archive, archived_text, AreArchives}
 use Rattle.job_record.specs.Keyed.{held_in, IsKeyed}
-use Rattle.job_record.specs.Map.{KeyMap, held, HoldsMap, IsInStep}
+use Rattle.job_record.specs.Map.{KeyMap, no_others, held, HoldsMap, IsInStep}
 use Rattle.job_record.specs.Opening.{begun, HasBytes, MigratesFrom}
 use Rattle.job_record.specs.OpenMap.{IsFirst, IsArchiveOf, AreArchivesOf, IsMigrated, SaysVersion, by_key}
 use Rattle.job_record.proofs.ArchiveList.{IsListOf, archives_of, found_cases, found_in, find_has, found_there, none_there}
@@ -38,7 +38,7 @@ use Rattle.job_record.proofs.Renoted.{says_two as renoted_says_two}
 use Rattle.job_record.proofs.RowMap.{held_row, row_held}
 use Rattle.job_record.proofs.Shapes.{laid_in}
 use Rattle.job_record.proofs.Shown.{AreShown, shown_rows}
-use Rattle.job_record.proofs.Standing.{AreTables}
+use Rattle.job_record.proofs.Standing.{AreTables, alone, none_apart}
 
 pub keyed_none : IsKeyed []
 keyed_none = record { ids = λ r h. absurd h; rowids = λ a b h. absurd h; keys = λ a b h. absurd h }
@@ -127,7 +127,7 @@ module _ (db : Database) (it : AreTables db) (all : List Columns) (new : List Ar
   pub are_archives : IsSorted by_key new → AreArchivesOf (held_in (db.trees 2)) new
   are_archives sorted = record { each = each; only = only; ordered = sorted; counted = λ i d within. let at = use_at 0 all new numbered i d within in omega (arith, at) }
 
-  pub in_step : (budget : Option ℕ) → IsInStep (record { rows = held_in (db.trees 2); archives = new; budget = budget })
+  pub in_step : (budget : Option ℕ) → IsInStep (record { rows = held_in (db.trees 2); archives = new; budget = budget; beside = no_others })
   in_step budget = record { flags = λ key c is. flagged key c is (has_archive key new) refl; owned = owned }
 
 -- ---- the whole
@@ -158,9 +158,12 @@ module _ {S : Type 0} (g : Ghosts S) (old last : Held S) (f : IsFirst (state g o
   none_yet : made.trees 4 ≡ []
   none_yet = with_table.empty
 
+  made_is : made.schema ≡ record_schema
+  made_is = with_table.schema_is ∙ schema_is
+
   tables : AreTables made
   tables = record {
-    schema = with_table.schema_is ∙ schema_is;
+    schema = alone made.schema made_is;
     sound = with_table.sound;
     keyed = subst IsKeyed (sym jobs_stay) f.keyed;
     kept = subst IsKeyed (sym none_yet) keyed_none;
@@ -168,16 +171,19 @@ module _ {S : Type 0} (g : Ghosts S) (old last : Held S) (f : IsFirst (state g o
   }
 
   read_is : read ≡ made
-  read_is = (shown_same archived_text [] (state g m.made) (state g m.read) (subst (λ s. IsPlain (understood s archived_text)) (sym tables.schema) archived_plain) m.all m.shows).0.now_is
+  read_is = (shown_same archived_text [] (state g m.made) (state g m.read) (subst (λ s. IsPlain (understood s archived_text)) (sym made_is) archived_plain) m.all m.shows).0.now_is
 
   answered : IsSureAnswer archived_query (overlay made.trees []) [] m.all
-  answered = (reads_as archived_text [] (state g m.made) (state g m.read) record_schema tables.schema _ archived_is.0 archived_plain archived_is.1 m.all m.shows).answer
+  answered = (reads_as archived_text [] (state g m.made) (state g m.read) record_schema made_is _ archived_is.0 archived_plain archived_is.1 m.all m.shows).answer
 
   grown : GrownBy read (state g m.added).now 0 m.all []
   grown = grows_all g m.read m.added 0 m.all [] (subst AreTables (sym read_is) tables) (subst (λ l. IsListOf (held_in l) []) (sym (ap (λ (d : Database). d.trees 4) read_is ∙ none_yet)) no_list) (omega arith) (omega (arith, m.few)) m.adds
 
-  renoted : Renoted (state g m.added) (state g last) grown.grown.tables.schema
-  renoted = renotes (state g m.added) (state g last) grown.grown.tables.schema m.counts.1 m.notes
+  added_is : (state g m.added).now.schema ≡ record_schema
+  added_is = grown.grown.schema ∙ ap (λ (d : Database). d.schema) read_is ∙ made_is
+
+  renoted : Renoted (state g m.added) (state g last) added_is
+  renoted = renotes (state g m.added) (state g last) added_is m.counts.1 m.notes
 
   noted : Noted (state g m.added) (state g last)
   noted = renoted.noted
@@ -188,7 +194,7 @@ module _ {S : Type 0} (g : Ghosts S) (old last : Held S) (f : IsFirst (state g o
   -- a version that was noted is now 2
   pub says_two : IsKeyed ((state g old).now.trees 0) → (r : Columns) → Has ((state g old).now.trees 0) r → column r 1 ≡ Text (codes "version") → SaysVersion (state g last).now 2
   says_two keyed r there is =
-      renoted_says_two (state g m.added) (state g last) grown.grown.tables.schema renoted (subst IsKeyed (sym meta_stays) keyed) r (subst (λ l. Has l r) (sym meta_stays) there) is
+      renoted_says_two (state g m.added) (state g last) added_is renoted (subst IsKeyed (sym meta_stays) keyed) r (subst (λ l. Has l r) (sym meta_stays) there) is
 
   jobs : (state g last).now.trees 2 ≡ (state g old).now.trees 2
   jobs = noted.jobs ∙ grown.grown.jobs ∙ ap (λ (d : Database). d.trees 2) read_is ∙ jobs_stay
@@ -202,11 +208,13 @@ module _ {S : Type 0} (g : Ghosts S) (old last : Held S) (f : IsFirst (state g o
       let list = grown.grown.list in
       let sorted = archives_sorted made.trees m.all answered 0 new grown.numbered in
       record {
-        map = record { rows = held (state g old); archives = new; budget = budget };
+        map = record { rows = held (state g old); archives = new; budget = budget; beside = no_others };
         budget_is = refl;
-        is = record { rows = λ key. refl; archives = subst (λ l. AreArchivesOf (held_in l) new) jobs_stay (are_archives made tables m.all new grown.numbered list.apart shown sorted) };
+        is = record { rows = λ key. refl; archives = subst (λ l. AreArchivesOf (held_in l) new) jobs_stay (are_archives made tables m.all new grown.numbered list.apart shown sorted); beside = refl };
         holds = record {
           schema = noted.schema_is;
+          apart = none_apart;
+          beside = λ t none. absurd none;
           sound = noted.sound;
           keyed = subst IsKeyed (sym jobs) f.keyed;
           kept = subst IsKeyed (sym noted.archives) grown.grown.tables.kept;
@@ -214,5 +222,5 @@ module _ {S : Type 0} (g : Ghosts S) (old last : Held S) (f : IsFirst (state g o
           rows = λ key. ap (λ l. held_in l key) jobs;
           archives = subst (λ l. AreArchives l new) (sym noted.archives) (archives_of ((state g m.added).now.trees 4) (held_in ((state g m.added).now.trees 4)) new (λ k. refl) list);
         };
-        in_step = subst (λ l. IsInStep (record { rows = held_in l; archives = new; budget = budget })) jobs_stay (in_step made tables m.all new grown.numbered list.apart shown budget);
+        in_step = subst (λ l. IsInStep (record { rows = held_in l; archives = new; budget = budget; beside = no_others })) jobs_stay (in_step made tables m.all new grown.numbered list.apart shown budget);
       }

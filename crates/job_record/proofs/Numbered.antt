@@ -69,6 +69,7 @@ pub record Grown (was db : Database) (archives : List Archive) : Type 0 where
   pub tables : AreTables db
   pub jobs : db.trees 2 ≡ was.trees 2
   pub meta : db.trees 0 ≡ was.trees 0
+  pub schema : db.schema ≡ was.schema
   pub list : IsListOf (held_in (db.trees 4)) archives
 
 module _ (old new : State) (before : List Archive) (c : Columns) (own : Archive) (it : AreTables old.now) (list : IsListOf (held_in (old.now.trees 4)) before) (low : greatest_used before < own.used) (fits : own.used ≤ greatest_number) (has : HasBytes c own.key own.bytes) where
@@ -85,6 +86,7 @@ module _ (old new : State) (before : List Archive) (c : Columns) (own : Archive)
         tables = w.tables;
         jobs = w.jobs_are;
         meta = (added_by old new own.key (pos own.bytes) (pos own.used) it count ran).meta_is;
+        schema = w.schema_is;
         list = list_of (new.now.trees 4) (before ++ own ∷ []) (archives_of (new.now.trees 4) (λ k. if bytes_eq k own.key then Some (archive_columns own) else held_in (old.now.trees 4) k) (before ++ own ∷ []) w.rows_are full);
       }
 
@@ -105,6 +107,7 @@ module _ {S : Type 0} (g : Ghosts S) where
       tables = subst (λ h. AreTables (state g h).now) (sym same) it;
       jobs = ap (λ h. (state g h).now.trees 2) same;
       meta = ap (λ h. (state g h).now.trees 0) same;
+      schema = ap (λ h. (state g h).now.schema) same;
       list = subst (IsListOf (held_in ((state g last).now.trees 4))) (sym (append-nil before)) (subst (λ h. IsListOf (held_in ((state g h).now.trees 4)) before) (sym same) list);
     };
   }
@@ -119,6 +122,7 @@ module _ {S : Type 0} (g : Ghosts S) where
           tables = rest.grown.tables;
           jobs = rest.grown.jobs ∙ one.jobs;
           meta = rest.grown.meta ∙ one.meta;
+          schema = rest.grown.schema ∙ one.schema;
           list = subst (IsListOf (held_in ((state g last).now.trees 4))) (append_assoc before (own ∷ []) rest.new) rest.grown.list;
         };
       }

@@ -19,7 +19,7 @@ use Rattle.job_record.specs.declared.fault.RecordFault.{RecordFault}
 use Rattle.job_record.specs.declared.fault.RecordFault.TheVariants.{NotARecord, WrongVersion, NoRow, Store, UsesSpent, OutOfMemory}
 use Rattle.job_record.specs.declared.making.Tables.{Tables}
 use Rattle.job_record.specs.declared.making.Tables.TheVariants as tables
-use Rattle.job_record.specs.Tables.{no_schema, first_schema, record_schema}
+use Rattle.job_record.specs.Tables.{no_schema, first_schema, record_schema, record_with, HasRecord}
 use Rattle.job_record.specs.Statements.{version_text, list_text}
 use Rattle.job_record.specs.Archives.{look_text, AreArchives}
 use Rattle.job_record.specs.Keyed.{held_in, IsKeyed}
@@ -34,6 +34,7 @@ use Rattle.job_record.proofs.MapSteps.{same_shows}
 use Rattle.job_record.proofs.Migrated.{keyed_none, no_list, migrated, says_two}
 use Rattle.job_record.proofs.Queries.{row_same, error_same}
 use Rattle.job_record.proofs.Renoted.{version_row}
+use Rattle.job_record.proofs.Standing.{none_apart}
 
 -- ---- which tables there are
 
@@ -54,10 +55,10 @@ module _ (s : State) where
 
   -- a record
   record_some : (job archive : Bool) → IsRecord s → HasTables s.now.schema false job archive → ⊥
-  record_some job archive it h = subst IsPlain h.meta_is (there_plain version_text record_schema it.schema version_plain)
+  record_some job archive it h = subst IsPlain h.meta_is (there_plain version_text (record_with it.schema.others) it.schema.is (version_plain it.schema.others))
 
   record_all : (meta job : Bool) → IsRecord s → HasTables s.now.schema meta job false → ⊥
-  record_all meta job it h = subst IsPlain h.archive_is (there_plain look_text record_schema it.schema look_plain)
+  record_all meta job it h = subst IsPlain h.archive_is (there_plain look_text (record_with it.schema.others) it.schema.is (look_plain it.schema.others))
 
 -- ---- the store is as it was
 
@@ -131,7 +132,7 @@ module _ (old new : State) where
   record_again it back open_now = let u = back open_now in (
     u.0,
     record {
-      schema = ap (λ (d : Database). d.schema) u.0 ∙ it.schema;
+      schema = subst (λ (d : Database). HasRecord d.schema) (sym u.0) it.schema;
       sound = subst IsDatabase (sym u.0) it.sound;
       keyed = subst (λ (d : Database). IsKeyed (d.trees 2)) (sym u.0) it.keyed;
       kept = subst (λ (d : Database). IsKeyed (d.trees 4)) (sym u.0) it.kept;
@@ -148,6 +149,8 @@ first_same old found u f = (first_again old found f (same_back old found (record
 made_map : (db : Database) (budget : Option ℕ) → db.schema ≡ record_schema → IsDatabase db → db.trees 2 ≡ [] → db.trees 4 ≡ [] → HoldsMap db (no_columns budget)
 made_map db budget schema sound jobs archives = record {
   schema = schema;
+  apart = none_apart;
+  beside = λ t none. absurd none;
   sound = sound;
   keyed = subst IsKeyed (sym jobs) keyed_none;
   kept = subst IsKeyed (sym archives) keyed_none;
@@ -202,7 +205,7 @@ module _ {S : Type 0} (g : Ghosts S) where
       first = λ it. first_again (state g old) (state g new) it
           (refused_back old new (record { settled = it.settled; autocommit = it.autocommit }) (λ job archive has. there_plain (state g old) version_text first_schema it.schema version_first) f h);
       taken = λ it. record_again (state g old) (state g new) it
-          (refused_back old new (record { settled = it.settled; autocommit = it.autocommit }) (λ job archive has. there_plain (state g old) version_text record_schema it.schema version_plain) f h);
+          (refused_back old new (record { settled = it.settled; autocommit = it.autocommit }) (λ job archive has. there_plain (state g old) version_text (record_with it.schema.others) it.schema.is (version_plain it.schema.others)) f h);
     }
 
     -- ---- it opens
@@ -249,6 +252,7 @@ module _ {S : Type 0} (g : Ghosts S) where
   is_migrated_at old at map same it = record {
     rows = λ key. it.rows key ∙ ap (λ (d : Database). held_in (d.trees 2) key) same;
     archives = subst (λ (d : Database). AreArchivesOf (held_in (d.trees 2)) map.archives) same it.archives;
+    beside = it.beside;
   }
 
   module _ (old new : Held S) where
@@ -257,7 +261,7 @@ module _ {S : Type 0} (g : Ghosts S) where
       made = λ b. absurd (blank_none (state g old) true true b has);
       migrated = λ f. absurd (first_fewer (state g old) true true f has);
       taken = λ it.
-          let plain = plain_at (state g old) (state g found) u (there_plain (state g old) version_text record_schema it.schema version_plain) in
+          let plain = plain_at (state g old) (state g found) u (there_plain (state g old) version_text (record_with it.schema.others) it.schema.is (version_plain it.schema.others)) in
           let all = unchanged_then (state g old) (state g found) (state g new) u (version_same (state g found) (state g new) plain (pos 2) reads) in
           (all, (same_shows (state g old) (state g new) it all).1);
       noted = λ b. absurd (blank_none (state g old) true true b has);
@@ -340,7 +344,7 @@ module _ {S : Type 0} (g : Ghosts S) where
     current_crashes looked two = record {
       blank = λ b. after_look _ _ (λ clean trees made. absurd (blank_none (state g old) true true b (looked clean).0)) two;
       first = λ f. after_look _ _ (λ clean trees made. absurd (first_fewer (state g old) true true f (looked clean).0)) two;
-      taken = λ it. after_look _ _ (λ clean trees made. shows_nothing old found (looked clean).1 record_schema it.schema version_plain trees made) two;
+      taken = λ it. after_look _ _ (λ clean trees made. shows_nothing old found (looked clean).1 (record_with it.schema.others) it.schema.is (version_plain it.schema.others) trees made) two;
     }
 
   pub unfound_crashes : (old new : Held S) → Survives (state g old) (state g new) (λ _. ⊥) → CrashesAs (state g old) (state g new)

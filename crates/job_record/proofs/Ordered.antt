@@ -12,7 +12,7 @@ use Rattle.sqlite_value.proofs.OrderLemmas.{value_cmp-Int}
 use Rattle.sqlite_rules.specs.Lists.{Has}
 use Rattle.job_record.proofs.Compiled.{greatest_query, oldest_query}
 
-less_then : (o : Ordering) → is_lt (ordering_then o Equal) ≡ is_lt o
+pub less_then : (o : Ordering) → is_lt (ordering_then o Equal) ≡ is_lt o
 less_then Less = refl
 less_then Equal = refl
 less_then Greater = refl
@@ -20,7 +20,7 @@ less_then Greater = refl
 int_less : (m n : ℕ) → m < n → is_lt (int_cmp (pos m) (pos n)) ≡ true
 int_less m n under = let is : nat_lt m n ≡ true = le-leb (suc m) n under in rw is refl
 
-not_less : (m n : ℕ) → is_lt (int_cmp (pos m) (pos n)) ≡ false → n ≤ m
+pub not_less : (m n : ℕ) → is_lt (int_cmp (pos m) (pos n)) ≡ false → n ≤ m
 not_less m n h = elim (leb_tells n m) [ inl under ↦ under.1 | inr over ↦ absurd (true≢false (sym (int_less m n over.1) ∙ h)) ]
 
 down_rows : (x y s t : Row) (m n : ℕ) → x ≡ Int (pos m) ∷ [] → y ≡ Int (pos n) ∷ [] → is_lt (output_cmp greatest_query (x, s) (y, t)) ≡ is_lt (int_cmp (pos n) (pos m))

@@ -15,11 +15,12 @@ use Rattle.sqlite_sql.specs.declared.ops.CompareOp.TheVariants.{Eq}
 use Rattle.sqlite.specs.Kind.TheVariants as kind
 use Rattle.sqlite.specs.Cast.{cast, cast_row}
 use Rattle.sqlite.specs.Tree.{Trees, rowid}
+use Rattle.sqlite.specs.Schema.{Schema}
 use Rattle.sqlite.specs.Term.{eval_all}
 use Rattle.sqlite_schema.specs.declared.command.Conflict.TheVariants.{Abort}
 use Rattle.sqlite_schema.specs.declared.command.Upsert.{Upsert}
 use Rattle.sqlite_schema.specs.declared.schema.Keys.TheVariants.{Enforced}
-use Rattle.sqlite.specs.Edit.{are_fresh, edit_of, next_rowid, with_rowid, put_all, Applies}
+use Rattle.sqlite.specs.Edit.{are_fresh, edit_of, taken_by, next_rowid, with_rowid, put_all, Applies}
 use Rattle.sqlite.specs.Rowids.TheVariants.{Chosen, Given}
 use Rattle.sqlite_trees.specs.Tree.{IsTable}
 use Rattle.sqlite_rules.specs.Lists.{Has}
@@ -33,19 +34,20 @@ use Rattle.sqlite.specs.Does.{Tally, Does}
 use Rattle.sqlite.specs.Listing.{understood}
 use Rattle.sqlite.specs.State.{State, mode_of, Executes}
 use Rattle.sqlite.proofs.Callers.{runs_as, statement_of, one_step}
-use Rattle.job_record.specs.Tables.{job_at, record_schema}
+use Rattle.job_record.specs.Tables.{job_at, record_with, IsApart}
 use Rattle.job_record.specs.Statements.{put_text}
 use Rattle.job_record.specs.Keyed.{held_in, IsKeyed}
 use Rattle.job_record.proofs.Compiled.{query, put_command, replace_tests, replace_project, put_is, put_plain}
 use Rattle.job_record.proofs.Shapes.{laid_in}
+use Rattle.job_record.proofs.Beside.{none_shares, job_idle}
 use Rattle.job_record.proofs.KeyTest.{texts_equal, same_text, text_itself}
 use Rattle.job_record.proofs.RowMap.{SetsRow, set_is}
 use Rattle.job_record.proofs.Shown.{AreShown, shown_rows, passes}
 use Rattle.job_record.proofs.Edits.{cast_int}
 use Rattle.job_record.proofs.KeyedRows.{keyed_set, fresh_apart}
-use Rattle.job_record.proofs.Writing.{went, same_value}
+use Rattle.job_record.proofs.Writing.{IsIdle, went, same_value}
 use Rattle.job_record.proofs.OneKey.{HasTexts, Only, replaces}
-use Rattle.job_record.proofs.Standing.{AreTables, job_texts, job_alone}
+use Rattle.job_record.proofs.Standing.{AreTables, KeepsOthers, again, others_kept, job_texts, job_alone}
 use Rattle.job_record.proofs.JobRows.{Wrote}
 
 either : (b : Bool) (x : Value) → cond b x x ≡ x
@@ -78,10 +80,16 @@ unfolding binary
 ints_equal m n = truth_of (is_eq (value_cmp (Int m) (Int n)))
 
 -- two rows conflict where they have one key
-conflict_is : (new r : Row) → conflicts (Some (1 ∷ [])) record_schema.indexes (job_at 2) new r ≡ is_true (binary (Compare Eq Binary) (column r 1) (column new 1))
-conflict_is new r = rw first_key-plain (or_false _ ∙ and_true _)
+conflict_is : (others : Schema) → IsApart others → (new r : Row) → conflicts (Some (1 ∷ [])) (record_with others).indexes (job_at 2) new r ≡ is_true (binary (Compare Eq Binary) (column r 1) (column new 1))
+conflict_is others apart new r = rw (none_shares others apart new r, first_key-plain) (or_false _ ∙ and_true _)
 
 module _ (old new : State) (key outputs files : List ℕ) (cost archived : ℤ) (it : AreTables old.now) where
+  abbrev schema : Schema
+  schema = record_with it.schema.others
+
+  idle : IsIdle schema (job_at 2)
+  idle = job_idle it.schema.others it.schema.apart
+
   abbrev params : Row
   params = Text key ∷ Text outputs ∷ Text files ∷ Int cost ∷ Int archived ∷ []
 
@@ -89,13 +97,13 @@ module _ (old new : State) (key outputs files : List ℕ) (cost archived : ℤ) 
   table = old.now.trees 2
 
   abbrev task : Task
-  task = record { limit = old.step_limit; keys = Enforced; schema = record_schema; table = job_at 2; params = params }
+  task = record { limit = old.step_limit; keys = Enforced; schema = schema; table = job_at 2; params = params }
 
   abbrev update : Upsert
   update = record { target = Some (1 ∷ []); update = Some (record { lets = []; body = query replace_tests replace_project [] }) }
 
   abbrev Sets : Trees → Type 0
-  Sets after = (made : Row) × (drop 1 made ≡ params) × SetsRow table (after 2) key made × IsKeyed (after 2) × (after 4 ≡ old.now.trees 4)
+  Sets after = (made : Row) × (drop 1 made ≡ params) × SetsRow table (after 2) key made × IsKeyed (after 2) × (after 4 ≡ old.now.trees 4) × KeepsOthers 2 old.now (record old.now { trees = after })
 
   abbrev texts : HasTexts table
   texts = job_texts old.now it
@@ -108,23 +116,23 @@ module _ (old new : State) (key outputs files : List ℕ) (cost archived : ℤ) 
     cast_again : cast_row (job_at 2) row ≡ Int id ∷ params
     cast_again = ap (cast_row (job_at 2)) row_is ∙ rw (cast_int id, cast_int cost, cast_int archived) refl
 
-    meets : (r : Row) → Has table r → column r 1 ≡ Text key → conflicts (Some (1 ∷ [])) record_schema.indexes (job_at 2) row r ≡ true
-    meets r there is = conflict_is row r ∙ rw (is, row_key) (texts_equal key key ∙ text_itself key)
+    meets : (r : Row) → Has table r → column r 1 ≡ Text key → conflicts (Some (1 ∷ [])) schema.indexes (job_at 2) row r ≡ true
+    meets r there is = conflict_is it.schema.others it.schema.apart row r ∙ rw (is, row_key) (texts_equal key key ∙ text_itself key)
 
-    met : (r : Row) → Has table r → conflicts (Some (1 ∷ [])) record_schema.indexes (job_at 2) row r ≡ true → column r 1 ≡ Text key
+    met : (r : Row) → Has table r → conflicts (Some (1 ∷ [])) schema.indexes (job_at 2) row r ≡ true → column r 1 ≡ Text key
     met r there h =
         let laid = laid_in old.now it.schema it.sound r there in
         let k : column r 1 ≡ Text laid.key = ap (λ (z : Row). column z 1) laid.is in
-        let e : bytes_eq laid.key key ≡ true = sym (texts_equal laid.key key) ∙ (let f = sym (conflict_is row r) ∙ h in rw (k, row_key) at f) in
+        let e : bytes_eq laid.key key ≡ true = sym (texts_equal laid.key key) ∙ (let f = sym (conflict_is it.schema.others it.schema.apart row r) ∙ h in rw (k, row_key) at f) in
         k ∙ ap Text (same_text laid.key key e)
 
     -- no row has the key
-    inserts : (one : Written) → Puts task row old.now.trees (Ok one) → AreConflicts (Some (1 ∷ [])) record_schema.indexes (job_at 2) table row [] → Sets one.trees
+    inserts : (one : Written) → Puts task row old.now.trees (Ok one) → AreConflicts (Some (1 ∷ [])) schema.indexes (job_at 2) table row [] → Sets one.trees
     inserts one puts none =
         let edit = edit_of old.now.trees (job_at 2) [] Given 0 (row ∷ []) in
         let edited = went puts in
         let trees : one.trees ≡ edited.0 = ap (λ (w : Written). w.trees) (same_value edited.2) in
-        let applies : Applies record_schema Enforced old.now.trees edit edited.0 = one_step record_schema _ old.now.trees edited.0 edit refl edited.1 in
+        let applies : Applies schema Enforced old.now.trees edit edited.0 = one_step schema _ old.now.trees edited.0 edit (idle (taken_by old.now.trees edit) edit.news) edited.1 in
         let made = Int id ∷ params in
         let fresh : are_fresh table (made ∷ []) ≡ true = subst (λ (z : Row). are_fresh table (z ∷ []) ≡ true) cast_again applies.fresh in
         let after : one.trees 2 ≡ put_all table (made ∷ []) = ap (λ (t : Trees). t 2) trees ∙ applies.rows ∙ ap (λ (z : Row). put_all table (z ∷ [])) cast_again in
@@ -135,8 +143,9 @@ module _ (old new : State) (key outputs files : List ℕ) (cost archived : ℤ) 
           kept = λ z h other. put_all_keeps (made ∷ []) table z fresh h;
         } in
         let k = keyed_set table (put_all table (made ∷ [])) key it.keyed made s id refl (λ z h other tie. fresh_apart table made [] z fresh h tie) in
-        let four = ap (λ (t : Trees). t 4) trees ∙ job_alone old.now.trees edited.0 edit refl applies in
-        (made, refl, subst (λ l. SetsRow table l key made) (sym after) s, subst IsKeyed (sym after) k, four)
+        let four = ap (λ (t : Trees). t 4) trees ∙ job_alone it.schema.others old.now.trees edited.0 edit refl applies in
+        let others = subst (λ t. KeepsOthers 2 old.now (record old.now { trees = t })) (sym trees) (others_kept old.now (record old.now { trees = edited.0 }) it.schema edit applies) in
+        (made, refl, subst (λ l. SetsRow table l key made) (sym after) s, subst IsKeyed (sym after) k, four, others)
 
     -- the row that has the key is replaced
     module _ (one : Written) (there r : Row) (in_table : Has table r) (r_key : column r 1 ≡ Text key) (there_is : there ≡ rowid r ∷ []) where
@@ -185,14 +194,15 @@ module _ (old new : State) (key outputs files : List ℕ) (cost archived : ℤ) 
       made_of : (x : Row) → x ≡ eval_all replace_project (all_given ∷ r ∷ []) → cast_row (job_at 2) (drop 1 x) ≡ Int at_id ∷ params
       made_of x is = ap (λ (z : Row). cast_row (job_at 2) (drop 1 z)) is ∙ made_from (column r 0) (column r 1) id_is r_key
 
-      replaced_by : (rows : List Row) → AreShown replace_tests replace_project table all_given rows → (next : Trees) → Applies record_schema Enforced old.now.trees (edit_of old.now.trees (job_at 2) (ids_of rows) Given 1 rows) next → Sets next
+      replaced_by : (rows : List Row) → AreShown replace_tests replace_project table all_given rows → (next : Trees) → Applies schema Enforced old.now.trees (edit_of old.now.trees (job_at 2) (ids_of rows) Given 1 rows) next → Sets next
       unfolding the_row
       replaced_by [] shows next applies = absurd (shows.complete r in_table passes_itself)
       replaced_by (x ∷ more) shows next applies =
           let o = the_row x more shows in
           let made = Int at_id ∷ params in
-          let s = replaces record_schema (job_at 2) old.now.trees it.keyed texts key next all_given (drop 1 replace_project) x more o applies made (made_of x o.first) refl refl in
-          (made, refl, s.0, s.1, job_alone old.now.trees next (edit_of old.now.trees (job_at 2) (ids_of (x ∷ more)) Given 1 (x ∷ more)) refl applies)
+          let s = replaces schema (job_at 2) old.now.trees it.keyed texts key next all_given (drop 1 replace_project) x more o applies made (made_of x o.first) refl refl in
+          let edit = edit_of old.now.trees (job_at 2) (ids_of (x ∷ more)) Given 1 (x ∷ more) in
+          (made, refl, s.0, s.1, job_alone it.schema.others old.now.trees next edit refl applies, others_kept old.now (record old.now { trees = next }) it.schema edit applies)
 
       updates : Updates task (record { lets = []; body = query replace_tests replace_project [] }) (params ++ rowid there ∷ shown (job_at 2) row) old.now.trees (Ok one) → Sets one.trees
       updates h =
@@ -200,14 +210,14 @@ module _ (old new : State) (key outputs files : List ℕ) (cost archived : ℤ) 
           let edit = edit_of old.now.trees (job_at 2) (ids_of queried.0) Given 1 queried.0 in
           let edited = went queried.2 in
           let trees : one.trees ≡ edited.0 = ap (λ (w : Written). w.trees) (same_value edited.2) in
-          let applies : Applies record_schema Enforced old.now.trees edit edited.0 = one_step record_schema _ old.now.trees edited.0 edit refl edited.1 in
+          let applies : Applies schema Enforced old.now.trees edit edited.0 = one_step schema _ old.now.trees edited.0 edit (idle (taken_by old.now.trees edit) edit.news) edited.1 in
           subst Sets (sym trees) (replaced_by queried.0 (shown_rows 2 replace_tests replace_project [] old.now.trees all_given queried.0 queried.1.answer) edited.0 applies)
 
     clears : (one : Written) (found : List Row) → Clears task Abort row old.now.trees found (Ok one) → Puts task row old.now.trees (Ok one)
     clears one [] h = h
     clears one (x ∷ more) h = h
 
-    upserted : (one : Written) (found : List Row) → AreConflicts (Some (1 ∷ [])) record_schema.indexes (job_at 2) table row found
+    upserted : (one : Written) (found : List Row) → AreConflicts (Some (1 ∷ [])) schema.indexes (job_at 2) table row found
         → Meets task (Upserts task Abort row old.now.trees []) row old.now.trees update found (Ok one) → Sets one.trees
     upserted one [] among h = inserts one (clears one h.0 h.2) among
     upserted one (x ∷ more) among h = let s = among.sound x (inl refl) in updates one x s.0 s.1 (met s.0 s.1 s.2) s.3 h
@@ -230,9 +240,9 @@ module _ (old new : State) (key outputs files : List ℕ) (cost archived : ℤ) 
 
   pub puts : (count : ℕ) → Executes put_text params old new (Ok count) → Wrote old.now new.now (λ k. if bytes_eq k key then Some params else held_in table k)
   puts count h =
-      let w = runs_as put_text params old new record_schema it.schema put_command put_is put_plain count h in
-      let text = statement_of put_text (understood record_schema put_text) in
-      let done = went (subst (λ s. Does old.step_limit (mode_of old) params (record old.now { schema = s }) text None put_command (Ok (w.tally, new.now))) it.schema w.changed) in
+      let w = runs_as put_text params old new schema it.schema.is put_command (put_is it.schema.others) (put_plain it.schema.others) count h in
+      let text = statement_of put_text (understood schema put_text) in
+      let done = went (subst (λ s. Does old.step_limit (mode_of old) params (record old.now { schema = s }) text None put_command (Ok (w.tally, new.now))) it.schema.is w.changed) in
       let end = same_value (went (went done.2).2).2 in
       let sourced = went done.1 in
       let counter = went sourced.2 in
@@ -246,7 +256,9 @@ module _ (old new : State) (key outputs files : List ℕ) (cost archived : ℤ) 
       let now : new.now.trees ≡ one.0.trees = ap (λ (p : Tally × Database). p.1.trees) end ∙ written in
       let s : Sets new.now.trees = subst Sets (sym now) s in
       record {
-        tables = record { schema = ap (λ (p : Tally × Database). p.1.schema) end; sound = w.sound; keyed = s.3; kept = subst IsKeyed (sym s.4) it.kept; ordered = subst IsTable (sym s.4) it.ordered };
+        tables = record { schema = again old.now.schema it.schema new.now.schema (ap (λ (p : Tally × Database). p.1.schema) end); sound = w.sound; keyed = s.3; kept = subst IsKeyed (sym s.4) it.kept; ordered = subst IsTable (sym s.4) it.ordered };
         rows_are = λ k. set_is table (new.now.trees 2) key s.0 s.2 it.keyed.keys k ∙ ap (λ (c : Row). if bytes_eq k key then Some c else held_in table k) s.1;
         archives_are = s.4;
+        schema_is = ap (λ (p : Tally × Database). p.1.schema) end ∙ sym it.schema.is;
+        others_are = s.5;
       }

@@ -17,7 +17,7 @@ use Rattle.sqlite_schema.specs.declared.program.Program.{Program}
 use Rattle.sqlite.specs.Collation.TheVariants.{Binary}
 use Rattle.sqlite_value.specs.Keys.{ascending}
 use Rattle.sqlite_rules.specs.Lists.{Has}
-use Rattle.job_record.specs.Tables.{record_schema}
+use Rattle.job_record.specs.Tables.{record_with}
 use Rattle.job_record.specs.Statements.{find_text, list_text}
 use Rattle.std.specs.List.Sorted.{IsSorted}
 use Rattle.job_rows.specs.declared.row.Row.{Row as Job}
@@ -39,25 +39,25 @@ module _ (old new : State) (key : List ℕ) (it : IsRecord old) where
   params = Text key ∷ []
 
   pub find_is_plain : IsPlain (understood old.now.schema find_text)
-  find_is_plain = subst (λ s. IsPlain (understood s find_text)) (sym it.schema) find_plain
+  find_is_plain = subst (λ s. IsPlain (understood s find_text)) (sym it.schema.is) (find_plain it.schema.others)
 
   shown_is : (r : Row) → Laid r → eval_all columns (params ∷ r ∷ []) ≡ drop 1 r
   shown_is r laid = ap (λ (z : Row). eval_all columns (params ∷ z ∷ [])) laid.is ∙ ap (λ (z : Row). drop 1 z) (sym laid.is)
 
   pub row_found : (row : Row) → QueriesRow find_text params old new (Ok row) → held old key ≡ Some row
   row_found row h =
-      let got = (first_as find_text params old new record_schema it.schema _ find_is.0 find_plain find_is.1 row h).1 in
+      let got = (first_as find_text params old new (record_with it.schema.others) it.schema.is _ (find_is it.schema.others).0 (find_plain it.schema.others) (find_is it.schema.others).1 row h).1 in
       let shown = shown_rows 2 has_key columns [] old.now.trees params (row ∷ got.0) got.1 in
       let t = tables_in old it in
       let o = only (old.now.trees 2) it.keyed (job_texts old.now t) key [] columns row got.0 shown in
       held_row (old.now.trees 2) key it.keyed.keys o.row o.there o.key_is ∙ ap Some (sym (shown_is o.row (laid_in old.now t.schema t.sound o.row o.there)) ∙ sym o.first)
 
   shows_none : QueriesRow find_text params old new (Err QueryReturnedNoRows) → Shown find_text params old new []
-  shows_none = no_rows find_text params old new record_schema it.schema _ _ find_is.0 find_plain
+  shows_none = no_rows find_text params old new (record_with it.schema.others) it.schema.is _ _ (find_is it.schema.others).0 (find_plain it.schema.others)
 
   pub none_found : QueriesRow find_text params old new (Err QueryReturnedNoRows) → held old key ≡ None
   none_found h =
-      let read = reads_as find_text params old new record_schema it.schema _ find_is.0 find_plain find_is.1 [] (shows_none h) in
+      let read = reads_as find_text params old new (record_with it.schema.others) it.schema.is _ (find_is it.schema.others).0 (find_plain it.schema.others) (find_is it.schema.others).1 [] (shows_none h) in
       lacks (old.now.trees 2) it.keyed (job_texts old.now (tables_in old it)) key [] columns (shown_rows 2 has_key columns [] old.now.trees params [] read.answer)
 
   pub none_same : QueriesRow find_text params old new (Err QueryReturnedNoRows) → IsUnchanged old new
@@ -70,11 +70,11 @@ module _ (old new : State) (it : IsRecord old) where
   table = old.now.trees 2
 
   pub list_is_plain : IsPlain (understood old.now.schema list_text)
-  list_is_plain = subst (λ s. IsPlain (understood s list_text)) (sym it.schema) list_plain
+  list_is_plain = subst (λ s. IsPlain (understood s list_text)) (sym it.schema.is) (list_plain it.schema.others)
 
   pub all_found : (all : List Row) → Shown list_text [] old new all → AreShown [] columns table [] all
   all_found all h =
-      let read = reads_as list_text [] old new record_schema it.schema _ list_is.0 list_plain list_is.1 all h in
+      let read = reads_as list_text [] old new (record_with it.schema.others) it.schema.is _ (list_is it.schema.others).0 (list_plain it.schema.others) (list_is it.schema.others).1 all h in
       shown_rows 2 [] columns ((col 1 1, ascending Binary) ∷ []) old.now.trees [] all read.answer
 
   row_is : (r : Row) → Laid r → eval_all columns ([] ∷ r ∷ []) ≡ drop 1 r
@@ -94,4 +94,4 @@ module _ (old new : State) (it : IsRecord old) where
 
   pub list_sorted : (all : List Row) (rows : List Job) → Shown list_text [] old new all → AreRowsOf all rows → IsSorted by_key rows
   list_sorted all rows h are =
-      let read = reads_as list_text [] old new record_schema it.schema _ list_is.0 list_plain list_is.1 all h in rows_sorted old.now.trees (laid_in old.now it.schema it.sound) all read.answer rows are
+      let read = reads_as list_text [] old new (record_with it.schema.others) it.schema.is _ (list_is it.schema.others).0 (list_plain it.schema.others) (list_is it.schema.others).1 all h in rows_sorted old.now.trees (laid_in old.now it.schema it.sound) all read.answer rows are

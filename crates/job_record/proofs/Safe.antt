@@ -8,6 +8,7 @@ use Rattle.job_record.specs.declared.fault.RecordFault.{RecordFault}
 use Rattle.job_record.specs.declared.fault.RecordFault.TheVariants.{NotARecord, WrongVersion, NoRow, Store, UsesSpent, OutOfMemory}
 use Rattle.job_record.specs.declared.changes.Space.{Space}
 use Rattle.job_record.specs.Counted.{FitsSpace}
+use Rattle.job_record.specs.Tables.{record_with}
 use Rattle.job_record.specs.Map.{KeyMap, HoldsMap, IsRecord, IsRecordOf, Stands, Change, changed_by}
 use Rattle.job_record.specs.OpenMap.{IsLeft}
 use Rattle.job_record.specs.Crash.{IsSafe, ChangesSafely, CrashesWhole}
@@ -38,7 +39,7 @@ safe_open s map refused settles open_now it = record {
 -- the record whose map it is
 pub record_of : (s : State) (map : KeyMap) → IsRecordOf s map → IsRecord s
 record_of s map it = record {
-  schema = it.holds.schema;
+  schema = record { others = map.beside.schema; is = it.holds.schema; apart = it.holds.apart };
   sound = it.holds.sound;
   keyed = it.holds.keyed;
   kept = it.holds.kept;
@@ -84,7 +85,7 @@ module _ {T : Type 0} (Given : KeyMap → Type 0) (Told : Answer T) (Why : KeyMa
 
   leaves : (map : KeyMap) → FitsSpace space map → IsRecordOf old map → (trees : Trees) → LeavesBy Told map trees → IsLeft trees (changed_by c map)
   leaves map fits it trees h = record {
-    holds = subst (HoldsMap _) (tells map h.0 h.1 it.holds fits h.2) h.3;
+    holds = subst (λ (m : KeyMap). HoldsMap (record { schema = record_with m.beside.schema; trees = trees }) m) (tells map h.0 h.1 it.holds fits h.2) h.3;
     in_step = stays_in_step old.now c map it.holds it.in_step;
   }
 

@@ -42,7 +42,7 @@ use Rattle.job_record.proofs.Shown.{AreShown, shown_rows}
 
 known_plain : (s : State) → IsFirst s ⊎ IsRecord s → IsPlain (understood s.now.schema version_text)
 known_plain s (inl first) = subst (λ (t : Schema). IsPlain (understood t version_text)) (sym first.schema) version_first
-known_plain s (inr it) = subst (λ (t : Schema). IsPlain (understood t version_text)) (sym it.schema) version_plain
+known_plain s (inr it) = subst (λ (t : Schema). IsPlain (understood t version_text)) (sym it.schema.is) (version_plain it.schema.others)
 
 -- reading the version of a record changes nothing
 version_seen : (old mid new : State) (n : ℤ) → IsUnchanged old mid → ReadsVersion mid new (Ok n) → IsFirst old ⊎ IsRecord old → IsUnchanged old new
@@ -116,7 +116,7 @@ module _ (old new : State) (it : IsFirst old) where
   first_still : IsUnchanged old new → IsFirst new
   first_still u = first_as u.0.now_is u.0.committed_is (u.0.mode ∙ it.autocommit)
 
-  first_undone : IsUnchanged old new ⊎ IsRolledBack old new → IsTrue new.is_open → (new.now ≡ old.now) × IsFirst new
+  pub first_undone : IsUnchanged old new ⊎ IsRolledBack old new → IsTrue new.is_open → (new.now ≡ old.now) × IsFirst new
   first_undone (inl u) open_now = (u.0.now_is, first_still u)
   first_undone (inr r) open_now = let u = r.undone open_now in (u.0 ∙ it.settled, first_as (u.0 ∙ it.settled) u.1 r.autocommit)
 

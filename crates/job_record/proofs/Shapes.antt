@@ -11,7 +11,7 @@ use Rattle.sqlite_schema.specs.declared.schema.Constraint.TheVariants.{Datatype,
 use Rattle.sqlite.specs.Effect.{Database, IsDatabase}
 use Rattle.sqlite_rules.specs.Lists.{Has}
 use Rattle.sqlite_rules.proofs.ListLemmas.{all_has}
-use Rattle.job_record.specs.Tables.{job_at, record_schema}
+use Rattle.job_record.specs.Tables.{job_at, HasRecord}
 
 pub record Laid (r : Row) : Type 0 where
   pub id : Value
@@ -91,8 +91,8 @@ pub laid_row : (r : Row) → are_typed (job_at 2).key 0 (job_at 2).columns (drop
 laid_row [] t p = absurd (none p)
 laid_row (id ∷ vs) t p = laid id vs t p
 
-pub laid_in : (db : Database) → db.schema ≡ record_schema → IsDatabase db → (r : Row) → Has (db.trees 2) r → Laid r
-laid_in db is sound r h =
-    let typed = rw is at (sound.obeys.rules Datatype) in
-    let present = rw is at (sound.obeys.rules NotNull) in
+pub laid_in : (db : Database) → HasRecord db.schema → IsDatabase db → (r : Row) → Has (db.trees 2) r → Laid r
+laid_in db has sound r h =
+    let typed = rw has.is at (sound.obeys.rules Datatype) in
+    let present = rw has.is at (sound.obeys.rules NotNull) in
     laid_row r (and_parts _ _ (all_has _ (db.trees 2) r typed.1.0 h)).0 (all_has _ (db.trees 2) r present.1.0 h)

@@ -1,9 +1,11 @@
 -- A database with the tables of a record, and what a statement on one of them leaves of the others.
-use Rattle.std.proofs.Common.{◌≡◌, ◌⊎◌, inl, inr, ℕ, suc, true, false, not, ℤ, List, [], ◌∷◌, drop, Option, Some, None, Ok, IsTrue, refl, sym, ap, subst, ◌∙◌, Ordering, Less, true≢false}
+use Rattle.std.proofs.Common.{◌≡◌, ◌≢◌, ◌⊎◌, inl, inr, ℕ, suc, true, false, not, ℤ, List, [], ◌∷◌, drop, Option, Some, None, Ok, IsTrue, refl, sym, ap, subst, ◌∙◌, Ordering, Less, true≢false}
 use Rattle.std.proofs.lemmas.Bool.{and_parts, not-true}
 use Rattle.sqlite.specs.declared.types.Value.TheVariants.{Text}
 use Rattle.sqlite.specs.Order.{Row, column, value_cmp}
 use Rattle.sqlite.specs.Tree.{Trees}
+use Rattle.sqlite.specs.Table.{Table}
+use Rattle.sqlite.specs.Schema.{Schema}
 use Rattle.sqlite.specs.Edit.{Edit, Applies, without_all, put_all}
 use Rattle.sqlite.specs.Effect.{Database, IsDatabase}
 use Rattle.sqlite.specs.State.{State}
@@ -15,31 +17,35 @@ use Rattle.sqlite_trees.proofs.TreeLemmas.{IsTable-put_row}
 use Rattle.sqlite_trees.proofs.ListLemmas.{ascending-filter}
 use Rattle.sqlite_rules.specs.Lists.{Has}
 use Rattle.sqlite_rules.proofs.ListLemmas.{all_has}
-use Rattle.job_record.specs.Tables.{job_at, archive_at, record_schema}
+use Rattle.job_record.specs.Tables.{job_at, archive_at, no_schema, record_schema, record_with, IsApart, HasRecord}
 use Rattle.job_record.specs.Keyed.{IsKeyed}
 use Rattle.job_record.specs.Map.{KeyMap, HoldsMap, IsRecord}
 use Rattle.job_record.proofs.OneKey.{HasTexts}
 use Rattle.job_record.proofs.Shapes.{Laid, laid_in, text_in}
-use Rattle.job_record.proofs.Writing.{IsIdle}
 
 pub record AreTables (db : Database) : Type 0 where
-  pub schema : db.schema ≡ record_schema
+  pub schema : HasRecord db.schema
   pub sound : IsDatabase db
   pub keyed : IsKeyed (db.trees 2)
   pub kept : IsKeyed (db.trees 4)
   pub ordered : IsTable (db.trees 4)
 
 pub tables_of : (db : Database) (map : KeyMap) → HoldsMap db map → AreTables db
-tables_of db map it = record { schema = it.schema; sound = it.sound; keyed = it.keyed; kept = it.kept; ordered = it.ordered }
+tables_of db map it = record { schema = record { others = map.beside.schema; is = it.schema; apart = it.apart }; sound = it.sound; keyed = it.keyed; kept = it.kept; ordered = it.ordered }
 
 pub tables_in : (s : State) → IsRecord s → AreTables s.now
 tables_in s it = record { schema = it.schema; sound = it.sound; keyed = it.keyed; kept = it.kept; ordered = it.ordered }
 
-pub job_idle : IsIdle record_schema (job_at 2)
-job_idle gone news = refl
+-- nothing was added
+pub none_apart : IsApart no_schema
+none_apart = record { trees = λ t none. absurd none; references = λ t reference none. absurd none; indexes = λ i none. absurd none }
 
-pub archive_idle : IsIdle record_schema (archive_at 4)
-archive_idle gone news = refl
+pub alone : (schema : Schema) → schema ≡ record_schema → HasRecord schema
+alone schema is = record { others = no_schema; is = is; apart = none_apart }
+
+-- the same tables
+pub again : (was : Schema) (it : HasRecord was) (schema : Schema) → schema ≡ record_with it.others → HasRecord schema
+again was it schema is = record { others = it.others; is = is; apart = it.apart }
 
 -- ---- the key of each row is a text
 
@@ -56,17 +62,25 @@ archive_key (id ∷ a ∷ more) t p = text_in a (and_parts _ _ t).0 (not-true _ 
 
 pub archive_texts : (db : Database) → AreTables db → HasTexts (db.trees 4)
 archive_texts db it r h =
-    let typed = rw it.schema at (it.sound.obeys.rules Datatype) in
-    let present = rw it.schema at (it.sound.obeys.rules NotNull) in
+    let typed = rw it.schema.is at (it.sound.obeys.rules Datatype) in
+    let present = rw it.schema.is at (it.sound.obeys.rules NotNull) in
     archive_key r (and_parts _ _ (all_has _ (db.trees 4) r typed.1.1.0 h)).0 (all_has _ (db.trees 4) r present.1.1.0 h)
 
 -- ---- the other table stands
 
-pub job_alone : (db next : Trees) (edit : Edit) → edit.table ≡ job_at 2 → Applies record_schema Enforced db edit next → next 4 ≡ db 4
-job_alone db next edit is a = a.tables.1.1.0 (λ e. let four : 4 ≡ 2 = e ∙ ap (λ t. t.tree) is in cc)
+module _ (others : Schema) (db next : Trees) (edit : Edit) where
+  pub job_alone : edit.table ≡ job_at 2 → Applies (record_with others) Enforced db edit next → next 4 ≡ db 4
+  job_alone is a = a.tables.1.1.0 (λ e. let four : 4 ≡ 2 = e ∙ ap (λ t. t.tree) is in cc)
 
-pub archive_alone : (db next : Trees) (edit : Edit) → edit.table ≡ archive_at 4 → Applies record_schema Enforced db edit next → next 2 ≡ db 2
-archive_alone db next edit is a = a.tables.1.0 (λ e. let two : 2 ≡ 4 = e ∙ ap (λ t. t.tree) is in cc)
+  pub archive_alone : edit.table ≡ archive_at 4 → Applies (record_with others) Enforced db edit next → next 2 ≡ db 2
+  archive_alone is a = a.tables.1.0 (λ e. let two : 2 ≡ 4 = e ∙ ap (λ t. t.tree) is in cc)
+
+-- each table but the one of this tree has the rows that it had
+abbrev pub KeepsOthers : ℕ → Database → Database → Type 0
+KeepsOthers tree old new = (t : Table) → Has old.schema.tables t → t.tree ≢ tree → new.trees t.tree ≡ old.trees t.tree
+
+pub others_kept : (old new : Database) (it : HasRecord old.schema) (edit : Edit) → Applies (record_with it.others) Enforced old.trees edit new.trees → KeepsOthers edit.table.tree old new
+others_kept old new it edit a t there = all_has _ (record_with it.others).tables t a.tables (subst (λ (s : Schema). Has s.tables t) it.is there)
 
 -- ---- how many rows a statement on one key met
 
@@ -83,5 +97,5 @@ without_keeps : (ids : List ℤ) (rows : List Row) → IsTable rows → IsTable 
 without_keeps [] rows up = up
 without_keeps (id ∷ ids) rows up = without_keeps ids (without_rowid id rows) (ascending-filter (λ (a b : Row). value_cmp (rowid a) (rowid b) ≡ Less) (λ r. not (has_rowid id r)) rows up)
 
-pub edit_keeps : (db next : Trees) (edit : Edit) → Applies record_schema Enforced db edit next → IsTable (db edit.table.tree) → IsTable (next edit.table.tree)
-edit_keeps db next edit a up = subst IsTable (sym a.rows) (put_keeps edit.news (without_all (db edit.table.tree) edit.gone) (without_keeps edit.gone (db edit.table.tree) up))
+pub edit_keeps : (schema : Schema) (db next : Trees) (edit : Edit) → Applies schema Enforced db edit next → IsTable (db edit.table.tree) → IsTable (next edit.table.tree)
+edit_keeps schema db next edit a up = subst IsTable (sym a.rows) (put_keeps edit.news (without_all (db edit.table.tree) edit.gone) (without_keeps edit.gone (db edit.table.tree) up))

@@ -7,6 +7,8 @@ use Rattle.sqlite.specs.declared.types.Value.TheVariants.{Int, Text}
 use Rattle.sqlite.specs.Order.{Row}
 use Rattle.sqlite.specs.declared.error.Error.{Error}
 use Rattle.sqlite_rules.specs.Lists.{Has}
+use Rattle.sqlite.specs.Table.{Table}
+use Rattle.sqlite.specs.Schema.{Schema}
 use Rattle.sqlite.specs.State.{State, IsUnchanged, IsRolledBack, KeepsCommit, ExecutesInside}
 use Rattle.job_rows.specs.declared.archive.Archive.{Archive}
 use Rattle.job_rows.specs.Map.{is_of, has_archive, without_archive, touched, next_used, greatest_used, greatest_number, AreUnspent}
@@ -45,9 +47,14 @@ module _ (sql : List ℕ) (params : Row) (old new : State) where
 -- ---- the map that is left
 
 module _ (old new : State) (map : KeyMap) (it : HoldsMap old.now map) where
+  other_one : (t : Table) → Has map.beside.schema.tables t → Has old.now.schema.tables t
+  other_one t there = subst (λ (s : Schema). Has s.tables t) (sym it.schema) (inr (inr (inr there)))
+
   jobs_left : (rows : List ℕ → Option Row) → Wrote old.now new.now rows → (next : List ℕ → Option Row) → ((k : List ℕ) → rows k ≡ next k) → HoldsMap new.now (record map { rows = next })
   jobs_left rows w next same = record {
-    schema = w.tables.schema;
+    schema = w.schema_is ∙ it.schema;
+    apart = it.apart;
+    beside = λ t there. w.others_are t (other_one t there) (it.apart.trees t there).0 ∙ it.beside t there;
     sound = w.tables.sound;
     keyed = w.tables.keyed;
     kept = w.tables.kept;
@@ -58,7 +65,9 @@ module _ (old new : State) (map : KeyMap) (it : HoldsMap old.now map) where
 
   archives_left : (f : List ℕ → Option Row) (archives : List Archive) → Archived old.now new.now f → IsListOf f archives → HoldsMap new.now (with_archives archives map)
   archives_left f archives w list = record {
-    schema = w.tables.schema;
+    schema = w.schema_is ∙ it.schema;
+    apart = it.apart;
+    beside = λ t there. w.others_are t (other_one t there) (it.apart.trees t there).1 ∙ it.beside t there;
     sound = w.tables.sound;
     keyed = w.tables.keyed;
     kept = w.tables.kept;
@@ -178,6 +187,8 @@ module _ (key : List ℕ) (used : ℕ) (old new : State) (n : ℕ) (ran : Execut
       let columns : List ℕ → List ℕ → Option Row = λ j k. if bytes_eq k j then Some (Text j ∷ Int (pos a.bytes) ∷ Int (pos used) ∷ []) else (if bytes_eq k key then None else held_in (old.now.trees 4) k) in
       archives_left old new map it (columns a.key) (without_archive key map.archives ++ own ∷ []) (record {
         tables = w.tables;
+        schema_is = w.schema_is;
+        others_are = w.others_are;
         rows_are = λ k. w.rows_are k ∙ twice k key (Text key ∷ Int (pos a.bytes) ∷ Int (pos used) ∷ []) (held_in (old.now.trees 4)) ∙ ap (λ j. columns j k) (sym key_is);
         jobs_are = w.jobs_are;
       }) full

@@ -52,6 +52,14 @@ key_of r a is = ap (λ (z : Row). column z 1) is.1
 text_at : (a b : List ℕ) → Text a ≡ Text b → a ≡ b
 text_at a b e = cc
 
+-- no later row of a table is this one
+pub not_again : (r : Row) (rows : List Row) → IsTable (r ∷ rows) → (z : Row) → Has rows z → z ≡ r → ⊥
+not_again r rows up z there same =
+    let below : value_cmp (rowid r) (rowid z) ≡ Less = all_has (λ y. value_cmp (rowid r) (rowid y) ≡ Less) rows z up.0 there in
+    let tie : value_cmp (rowid r) (rowid r) ≡ Equal = tied_itself value_cmp_total (rowid r) in
+    let both : value_cmp (rowid r) (rowid r) ≡ Less = subst (λ (y : Row). value_cmp (rowid r) (rowid y) ≡ Less) same below in
+    let e : Less ≡ Equal = sym both ∙ tie in cc
+
 pub sum_archives : (rows : List Row) → IsTable rows → AreKeysApart rows → (xs : List Archive) → AreApart xs → ((r : Row) → Has rows r → (a : Archive) × Has xs a × IsRowOf r a) → ((a : Archive) → Has xs a → (r : Row) × Has rows r × IsRowOf r a)
     → sum_by (λ (r : Row). number_in (column r 2)) rows ≡ total_bytes xs
 sum_archives [] up keys xs apart each every = sym (no_more xs (λ a h. (every a h).1))
@@ -62,14 +70,6 @@ sum_archives (r ∷ rows) up keys xs apart each every =
     let later = sum_archives rows up.1 (λ x y hx hy e. keys x y (inr hx) (inr hy) e) (without_archive a.key xs) (apart_without a.key xs apart) other_rows others in
     sum_by-cons (λ (z : Row). number_in (column z 2)) r rows ∙ (let all = total_split xs a apart own.1 in omega (arith, first, later, all))
   where
-    -- no later row is this one
-    not_again : (z : Row) → Has rows z → z ≡ r → ⊥
-    not_again z there same =
-        let below : value_cmp (rowid r) (rowid z) ≡ Less = all_has (λ y. value_cmp (rowid r) (rowid y) ≡ Less) rows z up.0 there in
-        let tie : value_cmp (rowid r) (rowid r) ≡ Equal = tied_itself value_cmp_total (rowid r) in
-        let both : value_cmp (rowid r) (rowid r) ≡ Less = subst (λ (y : Row). value_cmp (rowid r) (rowid y) ≡ Less) same below in
-        let e : Less ≡ Equal = sym both ∙ tie in cc
-
     other_rows : (z : Row) → Has rows z → (b : Archive) × Has (without_archive (each r (inl refl)).0.key xs) b × IsRowOf z b
     other_rows z there =
         let a = (each r (inl refl)).0 in
@@ -80,7 +80,7 @@ sum_archives (r ∷ rows) up keys xs apart each every =
         differ false is = refl
         differ true is =
             let same : (each r (inl refl)).0.key ≡ (each z (inr there)).0.key = (bytes_decides _ _).0 is in
-            absurd (not_again z there (keys z r (inr there) (inl refl) (key_of z (each z (inr there)).0 (each z (inr there)).2 ∙ ap Text (sym same) ∙ sym (key_of r (each r (inl refl)).0 (each r (inl refl)).2))))
+            absurd (not_again r rows up z there (keys z r (inr there) (inl refl) (key_of z (each z (inr there)).0 (each z (inr there)).2 ∙ ap Text (sym same) ∙ sym (key_of r (each r (inl refl)).0 (each r (inl refl)).2))))
 
     others : (b : Archive) → Has (without_archive (each r (inl refl)).0.key xs) b → (z : Row) × Has rows z × IsRowOf z b
     others b there =

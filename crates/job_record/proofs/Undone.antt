@@ -11,7 +11,8 @@ use Rattle.sqlite.proofs.Callers.{survives_begin}
 use Rattle.sqlite.proofs.StateLemmas.{survives_then}
 use Rattle.job_record.specs.declared.fault.RecordFault.{RecordFault}
 use Rattle.job_record.specs.declared.fault.RecordFault.TheVariants.{Store}
-use Rattle.job_record.specs.Opening.{begun, GoesBack, CannotMigrate, make_texts, RunsAll, RefusesOne, MigratesFrom}
+use Rattle.job_record.specs.Blame.{RunsOn}
+use Rattle.job_record.specs.Opening.{begun, GoesBack, CannotMigrate, make_texts, migrate_texts, RunsAll, RefusesOne, MigratesFrom}
 use Rattle.job_record.specs.inner.Inside.{GoesOn, Ends}
 use Rattle.job_record.specs.inner.Opened.{FailsToEnd, RunsThese, MakesOrFails, CommitsTables, MigratesIn, MigratesOrFails, CommitsMigrated}
 use Rattle.job_record.proofs.Chain.{was_clean, goes_then, goes_keeps, keeps_then}
@@ -66,11 +67,16 @@ module _ {S : Type 0} (g : Ghosts S) where
         let same : fault ≡ why = let all = e.0 in cc in
         (back r.0 e.1, (r.1.0, same ∙ r.1.1, inl (subst (λ h. RefusesOne g h make_texts r.1.0) is r.1.2)))
 
-    pub migrates_or_fails : (answer result : Result (Unit {0}) RecordFault) → MigratesIn g first last answer → Ends (state g last) (state g end) answer result → MigratesOrFails g old end result
-    migrates_or_fails (Ok done) (Ok told) m e = (last, subst (λ h. MigratesFrom g h last) is m.0, e.1)
-    migrates_or_fails (Ok done) (Err fault) m e = (back (goes_keeps (state g first) (state g last) m.1) (e.1 m.1.going), subst (CannotMigrate g (begun g old)) (sym e.0.1) tt)
-    migrates_or_fails (Err why) (Ok told) m e = absurd (let same = e.0 in cc)
-    migrates_or_fails (Err why) (Err fault) m e = let same : fault ≡ why = let all = e.0 in cc in (back m.0 e.1, subst (CannotMigrate g (begun g old)) (sym same) (subst (λ h. CannotMigrate g h why) is m.1))
+    pub migrates_or_fails : (answer result : Result (Unit {0}) RecordFault) → MigratesIn g first last answer → Ends (state g last) (state g end) answer result → FailsToEnd (state g last) (state g end) answer result
+        → MigratesOrFails g old end result
+    migrates_or_fails (Ok done) (Ok told) m e fails = (last, subst (λ h. MigratesFrom g h last) is m.0, e.1)
+    migrates_or_fails (Ok done) (Err fault) m e fails =
+        let ran = m.2.0 in (
+          back (goes_keeps (state g first) (state g last) m.1) (e.1 m.1.going),
+          subst (CannotMigrate g (begun g old)) (sym fails.1) (inr (ran.0, last, subst (λ h. RunsOn g migrate_texts ran.0 h last) is ran.1, (end, inl fails.2))),
+        )
+    migrates_or_fails (Err why) (Ok told) m e fails = absurd (let same = e.0 in cc)
+    migrates_or_fails (Err why) (Err fault) m e fails = let same : fault ≡ why = let all = e.0 in cc in (back m.0 e.1, subst (CannotMigrate g (begun g old)) (sym same) (subst (λ h. CannotMigrate g h why) is m.1))
 
     -- what it may leave to a crash
     pub commits_by : (P : Trees → Type 0) (answer : Result (Unit {0}) RecordFault) → (HasCleanDisk (state g last) → IsOk answer → P (state g last).now.trees) → Survives (state g first) (state g last) (λ _. ⊥)

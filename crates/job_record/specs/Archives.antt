@@ -1,11 +1,12 @@
 -- The table of the archives that are kept, the statements on it, and the archives that its rows are.
-use Rattle.std.specs.Prelude.{◌≡◌, ℕ, ◌≤◌, ◌-◌, ◌^◌, pos, min, find, Option, option_map, List, [], ◌∷◌, codes, IsUtf8}
+use Rattle.std.specs.Prelude.{◌≡◌, ℕ, ◌≤◌, ◌<◌, ◌-◌, ◌^◌, pos, min, find, option_map, List, [], ◌∷◌, length, codes, IsUtf8}
 use Rattle.sqlite.specs.declared.types.Value.TheVariants.{Text, Int}
-use Rattle.sqlite.specs.Order.{Row as Columns}
+use Rattle.sqlite.specs.Order.{Row as Columns, column}
 use Rattle.sqlite_rules.specs.Lists.{Has}
 use Rattle.job_rows.specs.declared.archive.Archive.{Archive}
 use Rattle.job_rows.specs.Map.{is_of, greatest_number}
 use Rattle.job_rows.specs.InStep.{AreApart, AreRising}
+use Rattle.job_record.specs.Columns.{IsText}
 use Rattle.job_record.specs.Keyed.{held_in}
 
 abbrev pub make_archive : List ℕ
@@ -25,6 +26,9 @@ bytes_text = codes "SELECT bytes FROM archive WHERE key = ?1"
 
 abbrev pub all_bytes_text : List ℕ
 all_bytes_text = codes "SELECT bytes FROM archive"
+
+abbrev pub archives_text : List ℕ
+archives_text = codes "SELECT key, bytes, used FROM archive ORDER BY used"
 
 abbrev pub add_text : List ℕ
 add_text = codes "INSERT INTO archive (key, bytes, used) VALUES (?1, ?2, ?3)"
@@ -69,3 +73,21 @@ pub record AreArchives (rows : List Columns) (archives : List Archive) : Type 0 
   pub apart : AreApart archives
   pub rising : AreRising 0 archives
   pub within : (archive : Archive) → Has archives archive → IsWithinStore archive
+
+-- ---- the archives that are read from columns
+
+-- the columns have this key and these numbers
+pub record IsArchiveIn (c : Columns) (archive : Archive) : Type 0 where
+  pub width : 2 < length c
+  pub key : IsText (column c 0) archive.key
+  pub bytes : column c 1 ≡ Int (pos archive.bytes)
+  pub used : column c 2 ≡ Int (pos archive.used)
+
+-- they read as no archive
+abbrev pub IsNoArchive : Columns → Type 0
+IsNoArchive c = (archive : Archive) → ¬ IsArchiveIn c archive
+
+abbrev pub AreArchivesIn : List Columns → List Archive → Type 0
+AreArchivesIn [] [] = Unit {0}
+AreArchivesIn (c ∷ cs) (archive ∷ archives) = IsArchiveIn c archive × AreArchivesIn cs archives
+AreArchivesIn _ _ = ⊥

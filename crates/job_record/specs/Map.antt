@@ -6,6 +6,7 @@ use Rattle.std.specs.Cmp.Lexicographic.{slice_cmp}
 use Rattle.std.specs.List.Sorted.{IsSorted}
 use Rattle.sqlite.specs.declared.types.Value.TheVariants.{Int}
 use Rattle.sqlite.specs.Order.{Row as Columns, column}
+use Rattle.sqlite.specs.Table.{Table}
 use Rattle.sqlite.specs.Effect.{Database, IsDatabase}
 use Rattle.sqlite.specs.State.{State, IsUnchanged}
 use Rattle.sqlite_trees.specs.Tree.{IsTable}
@@ -17,7 +18,7 @@ use Rattle.job_record.specs.declared.fault.RecordFault.{RecordFault}
 use Rattle.job_record.specs.declared.fault.RecordFault.TheVariants.{NotARecord, WrongVersion, NoRow, Store, UsesSpent, OutOfMemory}
 use Rattle.job_record.specs.Statements.{put_params}
 use Rattle.job_record.specs.Columns.{IsRowOf, IsUnread, AreRowsOf}
-use Rattle.job_record.specs.Tables.{record_schema}
+use Rattle.job_record.specs.Tables.{no_schema, record_with, IsApart, HasRecord}
 use Rattle.job_record.specs.Keyed.{held_in, IsKeyed}
 use Rattle.job_record.specs.Archives.{AreArchives}
 
@@ -25,9 +26,9 @@ use Rattle.job_record.specs.Archives.{AreArchives}
 abbrev pub held : State → List ℕ → Option Columns
 held s = held_in (s.now.trees 2)
 
--- The store holds the tables of a record and nothing else, and no transaction is open.
+-- The store holds the tables of a record, and others only after them, and no transaction is open.
 pub record IsRecord (s : State) : Type 0 where
-  pub schema : s.now.schema ≡ record_schema
+  pub schema : HasRecord s.now.schema
   pub sound : IsDatabase s.now
   pub keyed : IsKeyed (s.now.trees 2)
   pub kept : IsKeyed (s.now.trees 4)
@@ -37,18 +38,25 @@ pub record IsRecord (s : State) : Type 0 where
 
 -- ---- the map
 
--- the columns of each key, the archives that are kept, by the rising numbers of their last use, and how many bytes these may have together
+-- The columns of each key, the archives that are kept, by the rising numbers of their last use, and how many bytes these may have together;
+-- and beside the record, which other tables the database has, and their rows.
 pub record KeyMap : Type 0 where
   pub rows : List ℕ → Option Columns
   pub archives : List Archive
   pub budget : Option ℕ
+  pub beside : Database
+
+abbrev pub no_others : Database
+no_others = record { schema = no_schema; trees = λ tree. [] }
 
 abbrev pub no_columns : Option ℕ → KeyMap
-no_columns budget = record { rows = λ key. None; archives = []; budget = budget }
+no_columns budget = record { rows = λ key. None; archives = []; budget = budget; beside = no_others }
 
--- a database with the tables of a record, and what they hold
+-- a database with the tables of a record and these others, and what they hold
 pub record HoldsMap (db : Database) (map : KeyMap) : Type 0 where
-  pub schema : db.schema ≡ record_schema
+  pub schema : db.schema ≡ record_with map.beside.schema
+  pub apart : IsApart map.beside.schema
+  pub beside : (t : Table) → Has map.beside.schema.tables t → db.trees t.tree ≡ map.beside.trees t.tree
   pub sound : IsDatabase db
   pub keyed : IsKeyed (db.trees 2)
   pub kept : IsKeyed (db.trees 4)
@@ -61,7 +69,7 @@ pub record IsInStep (map : KeyMap) : Type 0 where
   pub flags : (key : List ℕ) (c : Columns) → map.rows key ≡ Some c → column c 4 ≡ Int (pos (if has_archive key map.archives then 1 else 0))
   pub owned : (key : List ℕ) → IsTrue (has_archive key map.archives) → IsSome (map.rows key)
 
--- the store holds this record and nothing else, and no transaction is open
+-- the store holds this record, beside these other tables, and no transaction is open
 pub record IsRecordOf (s : State) (map : KeyMap) : Type 0 where
   pub holds : HoldsMap s.now map
   pub in_step : IsInStep map
@@ -165,3 +173,13 @@ KeysIn old new (Ok keys) =
     ((key : List ℕ) → Has keys key → (c : Columns) × (held old key ≡ Some c)) × ((key : List ℕ) (c : Columns) → held old key ≡ Some c → Has keys key) × IsUnchanged old new × IsRecord new
 KeysIn old new (Err NotARecord) = (key : List ℕ) × (c : Columns) × (held old key ≡ Some c) × (¬ IsUtf8 key) × IsUnchanged old new × IsRecord new
 KeysIn old new (Err _) = Stands old new
+
+-- `archives_of` gives the archives of the map, the oldest use first, and changes nothing; each of them reads
+abbrev pub ArchivesIn : KeyMap → State → State → Result (List Archive) RecordFault → Type 0
+ArchivesIn map old new (Ok archives) = (archives ≡ map.archives) × IsUnchanged old new × IsRecord new
+ArchivesIn map old new (Err NotARecord) = ⊥
+ArchivesIn map old new (Err WrongVersion) = ⊥
+ArchivesIn map old new (Err NoRow) = ⊥
+ArchivesIn map old new (Err (Store e)) = Stands old new
+ArchivesIn map old new (Err UsesSpent) = ⊥
+ArchivesIn map old new (Err OutOfMemory) = Stands old new

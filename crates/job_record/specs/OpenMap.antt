@@ -15,9 +15,9 @@ use Rattle.job_rows.specs.declared.archive.Archive.{Archive}
 use Rattle.job_rows.specs.Map.{is_of, greatest_number}
 use Rattle.job_record.specs.Texts.{ReadsAsFiles}
 use Rattle.job_record.specs.Columns.{IsText}
-use Rattle.job_record.specs.Tables.{no_schema, first_schema, record_schema}
+use Rattle.job_record.specs.Tables.{no_schema, first_schema, record_with}
 use Rattle.job_record.specs.Keyed.{IsKeyed}
-use Rattle.job_record.specs.Map.{KeyMap, no_columns, held, HoldsMap, IsInStep, IsRecord, IsRecordOf, Stands}
+use Rattle.job_record.specs.Map.{KeyMap, no_others, no_columns, held, HoldsMap, IsInStep, IsRecord, IsRecordOf, Stands}
 
 -- the store has no table, and no transaction is open
 pub record IsBlank (s : State) : Type 0 where
@@ -63,6 +63,7 @@ pub record AreArchivesOf (rows : List ℕ → Option Columns) (archives : List A
 pub record IsMigrated (old : State) (map : KeyMap) : Type 0 where
   pub rows : (key : List ℕ) → map.rows key ≡ held old key
   pub archives : AreArchivesOf (held old) map.archives
+  pub beside : map.beside ≡ no_others
 
 -- `meta` has a row for the version, and each that it has says this number
 pub record SaysVersion (db : Database) (n : ℕ) : Type 0 where
@@ -90,9 +91,9 @@ pub record RefusesAs (old new : State) : Type 0 where
 
 -- ---- crashes
 
--- what a crash left is a record with this map
+-- what a crash left is a record with this map, and the other tables that are beside it
 pub record IsLeft (trees : Trees) (map : KeyMap) : Type 0 where
-  pub holds : HoldsMap (record { schema = record_schema; trees = trees }) map
+  pub holds : HoldsMap (record { schema = record_with map.beside.schema; trees = trees }) map
   pub in_step : IsInStep map
 
 -- the trees of a record with no row

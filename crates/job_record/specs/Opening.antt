@@ -21,6 +21,7 @@ use Rattle.job_record.specs.Columns.{IsText}
 use Rattle.job_record.specs.Statements.{make_meta, make_job, note_version, version_text, list_text}
 use Rattle.job_record.specs.Archives.{make_archive, look_text, archived_text, add_text, renote_version, archive_params}
 use Rattle.job_record.specs.OpenMap.{bytes_in}
+use Rattle.job_record.specs.Blame.{Blames}
 
 -- ---- the tables, as the queries on them find them
 
@@ -108,6 +109,10 @@ HasNoBytes c = (key : List ℕ) (bytes : ℕ) → ¬ HasBytes c key bytes
 abbrev pub make_texts : List (List ℕ)
 make_texts = make_meta ∷ make_job ∷ make_archive ∷ note_version ∷ []
 
+-- the statements that make a record of version 1 one of version 2
+abbrev pub migrate_texts : List (List ℕ)
+migrate_texts = make_archive ∷ archived_text ∷ add_text ∷ renote_version ∷ []
+
 module _ {S : Type 0} (g : Ghosts S) where
   abbrev pub begun : Held S → Held S
   begun old = record old { in_transaction = true }
@@ -169,12 +174,12 @@ module _ {S : Type 0} (g : Ghosts S) where
     pub shows : Shown archived_text [] (state g made) (state g read) all
     pub unread : Any HasNoBytes all
 
-  -- R1 for such a row, R4, or want of memory
+  -- R1 for such a row, R4 for its cause, or want of memory
   abbrev pub CannotMigrate : Held S → RecordFault → Type 0
   CannotMigrate first NotARecord = HasUnread first
   CannotMigrate first WrongVersion = ⊥
   CannotMigrate first NoRow = ⊥
-  CannotMigrate first (Store e) = Unit {0}
+  CannotMigrate first (Store e) = Blames g migrate_texts first (Store e)
   CannotMigrate first UsesSpent = ⊥
   CannotMigrate first OutOfMemory = Unit {0}
 

@@ -7,11 +7,13 @@ use Rattle.sqlite.specs.declared.error.Error.TheVariants.{SqliteFailure, QueryRe
 use Rattle.sqlite.specs.declared.error.ErrorCode.TheVariants as code
 use Rattle.sqlite.specs.State.{State, QueriesRow, Shown, FailsToQuery}
 use Rattle.sqlite.specs.Held.{Held, state}
+use Rattle.job_rows.specs.declared.archive.Archive.{Archive}
 use Rattle.job_rows.specs.declared.row.Row.{Row}
 use Rattle.job_record.specs.declared.fault.RecordFault.{RecordFault}
 use Rattle.job_record.specs.declared.fault.RecordFault.TheVariants.{NotARecord, WrongVersion, NoRow, Store, UsesSpent, OutOfMemory}
 use Rattle.job_record.specs.Statements.{find_text, list_text, key_params}
 use Rattle.job_record.specs.Columns.{IsRowOf, IsUnread, AreRowsOf, AreKeysOf, HasNoKey}
+use Rattle.job_record.specs.Archives.{archives_text, IsNoArchive, AreArchivesIn}
 
 -- a column was too large for the memory that is left
 abbrev pub LacksMemory : Error → Type 0
@@ -68,3 +70,17 @@ module _ {S : Type 0} (g : Ghosts S) (old new : Held S) where
   ListsKeys (Err UsesSpent) = ⊥
   ListsKeys (Err (Store e)) = FailsToQuery list_text [] (state g old) (state g new) e ⊎ (LacksMemory e × (all : List Columns) × ShowsAll all)
   ListsKeys (Err OutOfMemory) = (all : List Columns) × ShowsAll all
+
+  -- ---- the archives
+
+  abbrev pub ShowsArchives : List Columns → Type 0
+  ShowsArchives = Shown archives_text [] (state g old) (state g new)
+
+  abbrev pub ListsArchives : Result (List Archive) RecordFault → Type 0
+  ListsArchives (Ok archives) = (all : List Columns) × ShowsArchives all × AreArchivesIn all archives
+  ListsArchives (Err NotARecord) = (all : List Columns) × ShowsArchives all × Any IsNoArchive all
+  ListsArchives (Err WrongVersion) = ⊥
+  ListsArchives (Err NoRow) = ⊥
+  ListsArchives (Err UsesSpent) = ⊥
+  ListsArchives (Err (Store e)) = FailsToQuery archives_text [] (state g old) (state g new) e ⊎ (LacksMemory e × (all : List Columns) × ShowsArchives all)
+  ListsArchives (Err OutOfMemory) = (all : List Columns) × ShowsArchives all

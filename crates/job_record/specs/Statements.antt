@@ -29,7 +29,7 @@ abbrev pub list_text : List ℕ
 list_text = codes "SELECT key, outputs, files, cost, archived FROM job ORDER BY key"
 
 abbrev pub put_text : List ℕ
-put_text = codes "INSERT INTO job (key, outputs, files, cost, archived) VALUES (?1, ?2, ?3, ?4, ?5) ON CONFLICT (key) DO UPDATE SET outputs = excluded.outputs, files = excluded.files, cost = excluded.cost, archived = excluded.archived"
+put_text = codes "INSERT INTO job (key, outputs, files, cost, archived) VALUES (?1, ?2, ?3, ?4, ?5) ON CONFLICT (key) DO UPDATE SET outputs = ?2, files = ?3, cost = ?4, archived = ?5"
 
 abbrev pub drop_archive_text : List ℕ
 drop_archive_text = codes "UPDATE job SET archived = 0 WHERE key = ?1"

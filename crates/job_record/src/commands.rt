@@ -6,11 +6,12 @@ ghost use Rattle.sqlite.specs.State.{HasCleanDisk, Survives, CommitsShowing};
 ghost use Rattle.sqlite.specs.Held.{state};
 ghost use Rattle.job_rows.specs.Log.{entries_of};
 ghost use Rattle.job_record.specs.Statements.{find_text, list_text, key_params};
+ghost use Rattle.job_record.specs.Archives.{archives_text, AreArchivesIn, IsNoArchive};
 ghost use Rattle.job_rows.specs.Storable.{IsKept};
 ghost use Rattle.job_rows.specs.Map.{fits};
 ghost use Rattle.job_record.specs.Texts.{ReadsBack};
 ghost use Rattle.job_record.specs.Columns.{IsRowOf, IsUnread, AreRowsOf, AreKeysOf, HasNoKey, Misreads};
-ghost use Rattle.job_record.specs.RecordMap.{Finds, Lists, ListsKeys};
+ghost use Rattle.job_record.specs.RecordMap.{Finds, Lists, ListsArchives, ListsKeys};
 ghost use Rattle.job_record.specs.Map.{kept_as};
 ghost use Rattle.job_record.specs.inner.Crash.{RunsOpen};
 ghost use Rattle.job_record.specs.inner.Inside.{IsStorable, putting_of};
@@ -19,7 +20,7 @@ use crate::changes::Putting;
 use crate::fault::RecordFault;
 use crate::tables;
 use crate::texts::{row_of, stored_of};
-use job_rows::{Command, Entry, RecordRefusal, Row};
+use job_rows::{Archive, Command, Entry, RecordRefusal, Row};
 use plain_data::{Items, Text};
 use sqlite::{Alter, Connection, Error, Row as Columns};
 use std::alloc::{AllocError, Global};
@@ -168,4 +169,32 @@ fn read_keys(alloc: Global, all: &[Columns]) -> Result<Items<Text>, RecordFault>
         keys.push(tables::key_in(columns)?)?;
     }
     Ok(Items::from_vec(keys))
+}
+
+/// All archives, by their last use.
+pub fn all_archives<S: Alter>(
+    alloc: Global,
+    conn: &mut Connection<S>,
+) -> Result<Items<Archive>, RecordFault>
+    ensures lists { HasCleanDisk (state S.Store conn.new)
+        → ListsArchives S.Store conn.old conn.new result }
+    ensures survives { Survives (state S.Store conn.old) (state S.Store conn.new)
+        (CommitsShowing archives_text [] (state S.Store conn.old)) }
+    ensures mode { conn.old.in_transaction ≡ false → conn.new.in_transaction ≡ false }
+{
+    match tables::archives(conn) {
+        Ok(columns) => read_archives(alloc, columns.as_slice()),
+        Err(error) => Err(RecordFault::Store(error)),
+    }
+}
+
+fn read_archives(alloc: Global, all: &[Columns]) -> Result<Items<Archive>, RecordFault>
+    ensures ok { IfOk result (AreArchivesIn all.now) }
+    ensures err { IfErr result (Misreads (Any IsNoArchive all.now)) }
+{
+    let mut archives = Vec::new(alloc);
+    for columns in all {
+        archives.push(tables::archive_in(columns)?)?;
+    }
+    Ok(Items::from_vec(archives))
 }

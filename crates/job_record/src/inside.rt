@@ -16,7 +16,7 @@ use sqlite::types::ValueRef;
 use sqlite::{Alter, Error, Row as Columns, Transaction, params};
 
 const PUT: &str =
-    "INSERT INTO job (key, outputs, files, cost, archived) VALUES (?1, ?2, ?3, ?4, ?5) ON CONFLICT (key) DO UPDATE SET outputs = excluded.outputs, files = excluded.files, cost = excluded.cost, archived = excluded.archived";
+    "INSERT INTO job (key, outputs, files, cost, archived) VALUES (?1, ?2, ?3, ?4, ?5) ON CONFLICT (key) DO UPDATE SET outputs = ?2, files = ?3, cost = ?4, archived = ?5";
 
 const DROP_ARCHIVE: &str = "UPDATE job SET archived = 0 WHERE key = ?1";
 

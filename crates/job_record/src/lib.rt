@@ -27,4 +27,4 @@ mod texts;
 pub use fault::RecordFault;
 pub use laws::{see_record, see_rows};
 pub use record::JobRecord;
-pub use showing::{look, rows_of};
+pub use showing::{archives_of, look, rows_of};

@@ -3,7 +3,7 @@ ghost use Rattle.sqlite.specs.State.{HasCleanDisk, KeepsCommit, Survives, Commit
 ghost use Rattle.sqlite.specs.Held.{state};
 ghost use Rattle.job_record.specs.Statements.{find_text, list_text, key_params};
 ghost use Rattle.job_record.specs.RecordMap.{Finds, Lists, ListsKeys, AnswersOpen};
-ghost use Rattle.job_record.specs.Map.{IsRecord, IsRecordOf, FindsIn, PutsIn, TouchesIn, ChangesIn, ListsIn, KeysIn, sets, touches, unarchives, forgets, changed_by, kept_as};
+ghost use Rattle.job_record.specs.Map.{ArchivesIn, HoldsMap, IsRecord, IsRecordOf, FindsIn, PutsIn, TouchesIn, ChangesIn, ListsIn, KeysIn, sets, touches, unarchives, forgets, changed_by, kept_as};
 ghost use Rattle.job_record.specs.Blame.{Blames, put_texts, touch_texts, drop_texts, forget_texts};
 ghost use Rattle.job_record.specs.Log.{Logs};
 ghost use Rattle.job_record.specs.Counted.{IsCount, FitsSpace};
@@ -19,7 +19,8 @@ use crate::changes::{self, Space};
 use crate::commands::{all_keys, look_up, note, putting_of, read_all, room};
 use crate::fault::{RecordFault, told_of};
 use crate::making::open_tables;
-use job_rows::{Command, Entry, Row};
+use crate::showing::archives_of;
+use job_rows::{Archive, Command, Entry, Row};
 use plain_data::{Items, Text};
 use sqlite::{Alter, Connection};
 use std::alloc::Global;
@@ -391,6 +392,24 @@ impl<S: Alter> JobRecord<S> {
         ensures log { self.new.log ≡ self.old.log }
     {
         all_keys(self.alloc, &mut self.conn)
+    }
+
+    /// All archives, by their last use, the oldest first.
+    ///
+    /// # Errors
+    ///
+    /// R1 where an archive does not read; R4; want of memory.
+    pub fn archives(&mut self) -> Result<Items<Archive>, RecordFault>
+        ensures clean { HasCleanDisk (state S.Store self.new.conn)
+            → HasCleanDisk (state S.Store self.old.conn) }
+        ensures map { HasCleanDisk (state S.Store self.new.conn)
+            → IsRecord (state S.Store self.old.conn)
+            → (map : _) → HoldsMap (state S.Store self.old.conn).now map
+            → ArchivesIn map (state S.Store self.old.conn) (state S.Store self.new.conn) result }
+        ensures space { self.new.space ≡ self.old.space }
+        ensures log { self.new.log ≡ self.old.log }
+    {
+        archives_of(self.alloc, &mut self.conn)
     }
 }
 

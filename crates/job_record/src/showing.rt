@@ -1,17 +1,17 @@
 //! A record that is looked at as it is, also one of version 1.
 
-ghost use Rattle.std.specs.Prelude.{◌⊎◌, OnOk};
+ghost use Rattle.std.specs.Prelude.{◌≡◌, ◌⊎◌, false, OnOk};
 ghost use Rattle.sqlite.specs.State.{HasCleanDisk, IsUnchanged};
 ghost use Rattle.sqlite.specs.Held.{state};
-ghost use Rattle.job_record.specs.Map.{IsRecord, ListsIn};
+ghost use Rattle.job_record.specs.Map.{ArchivesIn, HoldsMap, IsRecord, ListsIn};
 ghost use Rattle.job_record.specs.OpenMap.{IsBlank, IsFirst};
-ghost use Rattle.job_record.specs.RecordMap.{Lists};
-ghost use Rattle.job_record.specs.Seen.{SeesIn};
+ghost use Rattle.job_record.specs.RecordMap.{Lists, ListsArchives};
+ghost use Rattle.job_record.specs.Seen.{SeesIn, SeesNone};
 
-use crate::commands::read_all;
+use crate::commands::{all_archives, read_all};
 use crate::fault::RecordFault;
 use crate::making::{Tables, find_tables, is_first, open_current};
-use job_rows::Row;
+use job_rows::{Archive, Row};
 use plain_data::Items;
 use sqlite::{Alter, Connection};
 use std::alloc::Global;
@@ -57,4 +57,31 @@ pub fn rows_of<S: Alter>(alloc: Global, conn: &mut Connection<S>) -> Result<Item
         → SeesIn (state S.Store conn.old) (state S.Store conn.new) result }
 {
     read_all(alloc, conn)
+}
+
+/// All archives of a record of version 2, by their last use, the oldest first.
+///
+/// # Errors
+///
+/// R1 where a key is no text in UTF-8, or the bytes or the use are no number; R4, also of a record of version 1, which has no table
+/// of archives; want of memory.
+#[tactic(auto, using(crate::proofs::ArchivesHeld::archives_are_map, crate::proofs::ArchivesHeld::archives_see_none))]
+pub fn archives_of<S: Alter>(
+    alloc: Global,
+    conn: &mut Connection<S>,
+) -> Result<Items<Archive>, RecordFault>
+    ensures clean { HasCleanDisk (state S.Store conn.new)
+        → HasCleanDisk (state S.Store conn.old) }
+    ensures lists { HasCleanDisk (state S.Store conn.new)
+        → ListsArchives S.Store conn.old conn.new result }
+    ensures map { HasCleanDisk (state S.Store conn.new)
+        → IsRecord (state S.Store conn.old)
+        → (map : _) → HoldsMap (state S.Store conn.old).now map
+        → ArchivesIn map (state S.Store conn.old) (state S.Store conn.new) result }
+    ensures first { HasCleanDisk (state S.Store conn.new)
+        → IsFirst (state S.Store conn.old)
+        → SeesNone (state S.Store conn.old) (state S.Store conn.new) result }
+    ensures mode { conn.old.in_transaction ≡ false → conn.new.in_transaction ≡ false }
+{
+    all_archives(alloc, conn)
 }

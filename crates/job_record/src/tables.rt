@@ -10,6 +10,7 @@ ghost use Rattle.sqlite.specs.Held.{state};
 ghost use Rattle.sqlite.specs.Values.{bound};
 ghost use Rattle.sqlite_rules.specs.Lists.{Has};
 ghost use Rattle.job_record.specs.Statements.{version_text, find_text, list_text, put_text, drop_archive_text, forget_text, key_params};
+ghost use Rattle.job_record.specs.Archives.{archives_text, IsArchiveIn, IsNoArchive};
 ghost use Rattle.job_record.specs.Texts.{AreUtf8};
 ghost use Rattle.job_record.specs.Columns.{IsText, AreColumnsOf, HasNoKey, Misreads, misread_as};
 ghost use Rattle.job_record.specs.Blame.{MeetsNone};
@@ -19,6 +20,7 @@ ghost use Rattle.job_record.specs.inner.Inside.{Always, Makes, Meets, Never, Ste
 use crate::fault::RecordFault;
 use crate::inside;
 use crate::texts::Stored;
+use job_rows::Archive;
 use plain_data::Text;
 use sqlite::types::ValueRef;
 use sqlite::{Alter, Connection, Error, ErrorCode, Row as Columns, Transaction, params};
@@ -26,6 +28,8 @@ use sqlite::{Alter, Connection, Error, ErrorCode, Row as Columns, Transaction, p
 const FIND: &str = "SELECT key, outputs, files, cost, archived FROM job WHERE key = ?1";
 
 pub const LIST: &str = "SELECT key, outputs, files, cost, archived FROM job ORDER BY key";
+
+const ARCHIVES: &str = "SELECT key, bytes, used FROM archive ORDER BY used";
 
 pub const VERSION_TEXT: &str = "SELECT value FROM meta WHERE name = 'version'";
 
@@ -172,6 +176,21 @@ pub fn list<S: Alter>(conn: &mut Connection<S>) -> Result<Vec<Columns>, Error>
     all_rows(conn, LIST, &[])
 }
 
+/// The columns of all archives, by their last use.
+pub fn archives<S: Alter>(conn: &mut Connection<S>) -> Result<Vec<Columns>, Error>
+    ensures ok { HasCleanDisk (state S.Store conn.new)
+        → IfOk result (λ rows. Shown archives_text [] (state S.Store conn.old)
+        (state S.Store conn.new) rows.items) }
+    ensures err { HasCleanDisk (state S.Store conn.new)
+        → IfErr result (FailsToQuery archives_text [] (state S.Store conn.old)
+        (state S.Store conn.new)) }
+    ensures survives { Survives (state S.Store conn.old) (state S.Store conn.new)
+        (CommitsShowing archives_text [] (state S.Store conn.old)) }
+    ensures mode { conn.old.in_transaction ≡ false → conn.new.in_transaction ≡ false }
+{
+    all_rows(conn, ARCHIVES, &[])
+}
+
 // A statement says what it does only of an open connection, and `prepare` refuses one that a failure has shut.
 // The first row of a query, on an open connection.
 fn first_row<S: Alter>(
@@ -234,6 +253,18 @@ pub fn key_in(columns: &Columns) -> Result<Text, RecordFault>
     ensures err { IfErr result (Misreads (HasNoKey columns.now)) }
 {
     text_at(columns, 0)
+}
+
+/// The archive that the columns are.
+pub fn archive_in(columns: &Columns) -> Result<Archive, RecordFault>
+    ensures ok { IfOk result (IsArchiveIn columns.now) }
+    ensures err { IfErr result (Misreads (IsNoArchive columns.now)) }
+{
+    Ok(Archive {
+        key: text_at(columns, 0)?,
+        bytes: natural_at(columns, 1)?,
+        used: natural_at(columns, 2)?,
+    })
 }
 
 /// The text in a column.

@@ -13,9 +13,10 @@ use Rattle.job_record.specs.declared.fault.RecordFault.TheVariants.{NotARecord, 
 use Rattle.job_record.specs.declared.making.Tables.{Tables}
 use Rattle.job_record.specs.declared.making.Tables.TheVariants as tables
 use Rattle.job_record.specs.Statements.{version_text}
-use Rattle.job_record.specs.Opening.{HasTables, ReadsVersion, RefusesVersion, GoesBack, HasNoBytes, CannotMigrate, begun, make_texts, RunsAll, RefusesOne, Makes, FailsToMake, Migrates, MigratesFrom, AddsAll}
+use Rattle.job_record.specs.Opening.{HasTables, ReadsVersion, RefusesVersion, GoesBack, HasNoBytes, CannotMigrate, begun, make_texts, migrate_texts, RunsAll, RefusesOne, Makes, FailsToMake, Migrates, MigratesFrom, AddsAll}
 use Rattle.job_record.specs.OpenMap.{OpensAs, RefusesAs}
-use Rattle.job_record.specs.inner.Inside.{GoesOn}
+use Rattle.job_record.specs.Blame.{Blames}
+use Rattle.job_record.specs.inner.Inside.{GoesOn, GoesTo}
 
 abbrev pub tables_of : Bool → Bool → Bool → Result Tables RecordFault
 tables_of true true true = Ok tables.All
@@ -42,15 +43,6 @@ abbrev pub OpensMap : Option ℕ → State → State → Result (Unit {0}) Recor
 OpensMap budget old new (Ok done) = OpensAs budget old new
 OpensMap budget old new (Err fault) = RefusesAs old new
 
--- R1 for a row that does not read
-abbrev pub CannotAdd : List Columns → RecordFault → Type 0
-CannotAdd all NotARecord = Any HasNoBytes all
-CannotAdd all WrongVersion = ⊥
-CannotAdd all NoRow = ⊥
-CannotAdd all (Store e) = Unit {0}
-CannotAdd all UsesSpent = ⊥
-CannotAdd all OutOfMemory = Unit {0}
-
 module _ {S : Type 0} (g : Ghosts S) where
   -- the transaction that makes the tables
   abbrev pub RunsThese : Held S → Held S → List (List ℕ) → Result (Unit {0}) RecordFault → Type 0
@@ -65,12 +57,22 @@ module _ {S : Type 0} (g : Ghosts S) where
   CommitsTables old trees = (last : Held S) × RunsAll g (begun g old) last make_texts × (trees ≡ (state g last).now.trees)
 
   -- the transaction that migrates them
+
+  -- R1 for a row that does not read, and R4 for its cause
+  abbrev pub CannotAdd : Held S → List Columns → RecordFault → Type 0
+  CannotAdd at all NotARecord = Any HasNoBytes all
+  CannotAdd at all WrongVersion = ⊥
+  CannotAdd at all NoRow = ⊥
+  CannotAdd at all (Store e) = Blames g migrate_texts at (Store e)
+  CannotAdd at all UsesSpent = ⊥
+  CannotAdd at all OutOfMemory = Unit {0}
+
   abbrev pub AddsOrFails : Held S → Held S → List Columns → Result (Unit {0}) RecordFault → Type 0
-  AddsOrFails old new all (Ok done) = AddsAll g old new 0 all × GoesOn (state g old) (state g new)
-  AddsOrFails old new all (Err fault) = KeepsCommit (state g old) (state g new) × CannotAdd all fault
+  AddsOrFails old new all (Ok done) = AddsAll g old new 0 all × GoesOn (state g old) (state g new) × GoesTo g migrate_texts old new
+  AddsOrFails old new all (Err fault) = KeepsCommit (state g old) (state g new) × CannotAdd old all fault
 
   abbrev pub MigratesIn : Held S → Held S → Result (Unit {0}) RecordFault → Type 0
-  MigratesIn old new (Ok done) = MigratesFrom g old new × GoesOn (state g old) (state g new)
+  MigratesIn old new (Ok done) = MigratesFrom g old new × GoesOn (state g old) (state g new) × GoesTo g migrate_texts old new
   MigratesIn old new (Err fault) = KeepsCommit (state g old) (state g new) × CannotMigrate g old fault
 
   abbrev pub MigratesOrFails : Held S → Held S → Result (Unit {0}) RecordFault → Type 0

@@ -17,7 +17,7 @@ returns-clause-migrates g c clean =
     let late : HasCleanDisk (state g.S.Store end) = search rules in
     let before : HasCleanDisk (state g.S.Store last) = was_clean _ _ _ c.ended.ensures.survives late in
     subst (λ h. MigratesOrFails g.S.Store old h c.ended.result) same
-    (migrates_or_fails g.S.Store old first last end begun c.migrate_in-answer.result c.ended.result (c.migrate_in-answer.ensures.migrates before (going g.S.Store old first last end begun)) (c.ended.ensures.ends late))
+    (migrates_or_fails g.S.Store old first last end begun c.migrate_in-answer.result c.ended.result (c.migrate_in-answer.ensures.migrates before (going g.S.Store old first last end begun)) (c.ended.ensures.ends late) (c.ended.ensures.fails late))
 
 pub returns-clause-survives : goal.returns-clause-survives
 returns-clause-survives g c =

@@ -5,8 +5,13 @@ use Rattle.sqlite.specs.Held.{state}
 use Rattle.job_rows.specs.Map.{greatest_number}
 use Rattle.job_record.specs.Archives.{archived_text}
 use Rattle.job_record.proofs.Chain.{was_clean}
-use Rattle.job_record.proofs.MigratedIn.{read_fails, to_read, add_fails, to_added, note_fails, migrates}
+use Rattle.job_record.proofs.MigratedIn.{make_fails, read_fails, to_read, add_fails, to_added, note_fails, migrates}
 use Rattle.job_record.proofs.migrating.migrate_in.Goals as goal
+
+pub returns-in_err-execute-clause-migrates : goal.returns-in_err-execute-clause-migrates
+returns-in_err-execute-clause-migrates g c clean going =
+    let p = err_from_is_err_and c.from_residual.result c.from_residual.ensures.1 in
+    rw (p.1, p.2) (make_fails g.S.Store c.args.change.now.conn.now c.execute.new.self.conn.now _ (c.in_err-execute.ensures.runs clean going))
 
 pub returns-in_err-archived-clause-migrates : goal.returns-in_err-archived-clause-migrates
 returns-in_err-archived-clause-migrates g c clean going =
