@@ -83,13 +83,14 @@ pub(crate) fn stage<R: World>(
     told(log, request, HostFault::Stage, outcome)
 }
 
-/// Starts the child of a launch under this ticket, whose messages are to be handed on or not where no file takes them. Where it can't be
-/// started, it is told why, as far as the system says so.
+/// Starts the child of a launch by a launcher under this ticket, whose messages are to be handed on or not where no file takes them. Where it
+/// can't be started, it is told why, as far as the system says so.
 pub(crate) fn start<R: World>(
     rt: &R,
     log: &mut Vec<Entry>,
     running: &mut Vec<u64>,
     flying: &mut Vec<Flying<R::Started, R::File>>,
+    launcher: &[Text],
     launch: &Launch,
     ticket: u64,
     shows: bool,
@@ -106,7 +107,7 @@ where
 {
     make_room(running)?;
     make_room(flying)?;
-    let child = begin(rt, log, launch, ticket, shows, unstarted)?;
+    let child = begin(rt, log, launcher, launch, ticket, shows, unstarted)?;
     add(running, ticket);
     add(flying, child);
     Ok(())
@@ -115,6 +116,7 @@ where
 fn begin<R: World>(
     rt: &R,
     log: &mut Vec<Entry>,
+    launcher: &[Text],
     launch: &Launch,
     ticket: u64,
     shows: bool,
@@ -129,7 +131,7 @@ where
 {
     make_room(log)?;
     let request = HostRequest::Start(launch.clone_in(rt.alloc())?);
-    match spawned(rt, launch, ticket, shows) {
+    match spawned(rt, launcher, launch, ticket, shows) {
         Ok(child) => {
             note(log, request, HostAnswer::Started(ticket));
             Ok(child)

@@ -13,7 +13,7 @@ use std::alloc::{AllocError, Global};
 use std::rt::Files;
 use std::{fs, io};
 
-/// Makes the folder of a job with `out`, `tmp` and `in` in it, and copies the files and folders of its plan into `in`.
+/// Makes the folder of a job with `out` and `tmp` in it, and copies the files and folders of its plan into `in`, which is made for them.
 ///
 /// The job's folder has to be absent.
 pub(crate) fn lay_out<R: World>(
@@ -43,8 +43,7 @@ fn lay_out_in<R: World>(
 
 fn make_parts<R: AllocGlobal + Files>(rt: &R, folder: &str) -> Result<(), Trouble> {
     make_part(rt, folder, "out")?;
-    make_part(rt, folder, "tmp")?;
-    make_part(rt, folder, "in")
+    make_part(rt, folder, "tmp")
 }
 
 fn make_part<R: AllocGlobal + Files>(rt: &R, folder: &str, name: &str) -> Result<(), Trouble> {

@@ -42,6 +42,8 @@ pub struct Machine<R: World> {
     keeps: bool,
     // paths at which no delivery puts anything
     guarded: Items<Text>,
+    // the words that stand before each command
+    launcher: Items<Text>,
     // of the last stage or delivery
     hindered: Option<Undelivered>,
     // of the last start
@@ -61,7 +63,7 @@ impl<R: World> Model for Machine<R> {
 
     ghost coded = { Prim.hlevel (codes, value.the_row.coded) };
 
-    ghost view = { λ fields. record { log = fields.log.items; running = fields.running.items; guarded = fields.guarded } };
+    ghost view = { λ fields. record { log = fields.log.items; running = fields.running.items; guarded = fields.guarded; launcher = fields.launcher } };
 
     ghost invariant = { λ fields. IsInStep fields.log.items fields.running.items fields.started };
 }
@@ -71,7 +73,7 @@ impl<R: World> Machine<R> {
     /// whose outputs are delivered to `outdir`. These are paths from the root, since children run in folders of their own. Without an
     /// archive each fetch, store and discard fails.
     pub fn new(rt: R, work: Text, archive: Option<Text>, outdir: Text) -> Machine<R>
-        ensures { result ≡ record { log = []; running = []; guarded = [] } }
+        ensures { result ≡ record { log = []; running = []; guarded = []; launcher = [] } }
     {
         let alloc = rt.alloc();
         Machine {
@@ -87,6 +89,7 @@ impl<R: World> Machine<R> {
             shows: false,
             keeps: false,
             guarded: Items::new(alloc),
+            launcher: Items::new(alloc),
             hindered: None,
             unstarted: None,
             unlisted: None,
@@ -115,6 +118,21 @@ impl<R: World> Machine<R> {
         ensures { self.new ≡ record self.old { guarded = paths } }
     {
         mem::drop(mem::replace(&mut self.guarded, paths));
+    }
+
+    /// From now on these words stand before those of each launch, so the first of them names the program that is started: it is to start the
+    /// command behind it. They take the place of those that stood there before; without words each command is started itself.
+    pub fn launch_by(&mut self, words: Items<Text>)
+        ensures { self.new ≡ record self.old { launcher = words } }
+    {
+        mem::drop(mem::replace(&mut self.launcher, words));
+    }
+
+    /// The words that stand before those of each launch.
+    pub fn launcher(&self) -> &[Text]
+        ensures { result.now ≡ self.now.launcher }
+    {
+        self.launcher.as_slice()
     }
 
     /// What the last stage or delivery could not copy, and why, where that is known.
@@ -201,6 +219,7 @@ where
             &mut self.log,
             &mut self.running,
             &mut self.flying,
+            self.launcher.as_slice(),
             launch,
             ticket,
             self.shows,

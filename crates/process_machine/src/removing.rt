@@ -1,6 +1,7 @@
 //! The removal of folders that commands wrote.
 
 use crate::making::{OWNERS_RIGHTS, mode_of, new_folder_in};
+use crate::tree::is_own_folder;
 use crate::trouble::{Trouble, or_trouble};
 use std::fs::{Permissions, ReadDir};
 use std::os::unix::fs::PermissionsExt;
@@ -9,14 +10,23 @@ use std::{fs, io, mem};
 
 /// Removes a folder with all that is below it. No link is followed.
 ///
-/// A command may have left a folder from which its owner can't remove anything, so each one is given its owner's rights to read, write and
-/// search. It may have left more folders in one another than a path can name, so each folder that is met is moved up into one of
-/// our own, and is emptied there: once, by a short path. What can't be moved up so, as a folder whose name is no UTF-8, the system removes.
+/// The folders of its first two levels are emptied where they stand: as a rule there are no more. A command may have left a folder from which
+/// its owner can't remove anything, so each one that stays is given its owner's rights to read, write and search. It may have left more
+/// folders in one another than a path can name, so each folder that is met then is moved up into one of our own, and is emptied there: once,
+/// by a short path. What can't be moved up so, as a folder whose name is no UTF-8, the system removes.
 pub fn remove_folder<R: AllocGlobal + Files + Clone + Drop>(
     rt: &R,
     folder: &str,
 ) -> io::Result<()> {
-    if fs::remove_dir(rt, folder).is_ok() {
+    match fs::remove_dir(rt, folder) {
+        Err(error) if error.kind() != io::ErrorKind::NotFound => remove_filled(rt, folder),
+        outcome => outcome,
+    }
+}
+
+fn remove_filled<R: AllocGlobal + Files + Clone + Drop>(rt: &R, folder: &str) -> io::Result<()> {
+    // What a link leads to stays.
+    if is_own_folder(rt, folder) && remove_in_place(rt, folder).is_ok() {
         return Ok(());
     }
     // Where this fails, so does the removal, or the system does it.
@@ -24,6 +34,47 @@ pub fn remove_folder<R: AllocGlobal + Files + Clone + Drop>(
     match fs::remove_dir(rt, folder) {
         Ok(()) => Ok(()),
         Err(_) => fs::remove_dir_all(rt, folder),
+    }
+}
+
+// Removes a folder that is no link, where all that is in it are files, and folders that `remove_shallow` removes, as in a work folder.
+fn remove_in_place<R: AllocGlobal + Files + Clone + Drop>(rt: &R, folder: &str) -> io::Result<()> {
+    for entry in fs::read_dir(rt, folder)? {
+        if let Ok(entry) = entry {
+            if is_folder_left(rt, entry.path().as_str()) {
+                let _removed = remove_shallow(rt, entry.path().as_str());
+            }
+        }
+    }
+    fs::remove_dir(rt, folder)
+}
+
+// The same where these are files, and folders of files.
+fn remove_shallow<R: AllocGlobal + Files + Clone + Drop>(rt: &R, folder: &str) -> io::Result<()> {
+    for entry in fs::read_dir(rt, folder)? {
+        if let Ok(entry) = entry {
+            if is_folder_left(rt, entry.path().as_str()) {
+                let _removed = remove_flat(rt, entry.path().as_str());
+            }
+        }
+    }
+    fs::remove_dir(rt, folder)
+}
+
+fn remove_flat<R: AllocGlobal + Files + Clone + Drop>(rt: &R, folder: &str) -> io::Result<()> {
+    for entry in fs::read_dir(rt, folder)? {
+        if let Ok(entry) = entry {
+            let _removed = fs::remove_file(rt, entry.path().as_str());
+        }
+    }
+    fs::remove_dir(rt, folder)
+}
+
+// Removes what is at a path if it is no folder, and says whether it is one.
+fn is_folder_left<R: Files>(rt: &R, path: &str) -> bool {
+    match fs::remove_file(rt, path) {
+        Err(error) => error.kind() == io::ErrorKind::IsADirectory,
+        Ok(()) => false,
     }
 }
 

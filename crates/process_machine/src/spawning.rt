@@ -1,5 +1,5 @@
 //! The start of a child.
-ghost use Rattle.std.specs.Prelude.{◌≡◌, [], List, ℕ, Some, IfOk, OnOk, true};
+ghost use Rattle.std.specs.Prelude.{◌≡◌, ◌++◌, [], List, ℕ, Some, IfOk, OnOk, true};
 ghost use Rattle.std.specs.Process.{SameEnv, SameOtherVars, SameProgramAndArgs, clears_env, command_args, command_dir, command_program, command_var};
 ghost use Rattle.process_machine.specs.Launched.{IsOf, Keeps, text_under};
 
@@ -26,9 +26,11 @@ pub(crate) struct Flying<P: OpenProcess, F: OpenFile> {
     pub messages: Option<Messages<F>>,
 }
 
-/// Starts the child of a launch. Its messages are to be handed on or not where no file takes them.
+/// Starts the child of a launch by a launcher, which is none without words. Its messages are to be handed on or not where no file takes
+/// them.
 pub(crate) fn spawned<R: World>(
     rt: &R,
+    launcher: &[Text],
     launch: &Launch,
     ticket: u64,
     shows: bool,
@@ -36,8 +38,8 @@ pub(crate) fn spawned<R: World>(
 where
     R::File: Into<Stdio>,
 {
-    let mut command = command_of(rt.alloc(), launch)?;
-    let flying = begun_with_streams(rt, &mut command, launch, ticket, shows);
+    let mut command = command_of(rt.alloc(), launcher, launch)?;
+    let flying = begun_with_streams(rt, &mut command, launcher, launch, ticket, shows);
     mem::drop(command);
     flying
 }
@@ -46,19 +48,20 @@ where
 fn begun_with_streams<R: World>(
     rt: &R,
     command: &mut Command,
+    launcher: &[Text],
     launch: &Launch,
     ticket: u64,
     shows: bool,
 ) -> Result<Flying<R::Started, R::File>, Trouble>
 where
     R::File: Into<Stdio>,
-    requires { IsOf launch.now command.old }
+    requires { IsOf launcher.now launch.now command.old }
 {
     set_input(rt, &launch.stdin, command)?;
     set_outputs(rt, launch, command)?;
     let messages = if shows { messages_of(rt, launch) } else { None };
     let started = Instant::now(rt)?;
-    let child = begun(rt, command, launch)?;
+    let child = begun(rt, command, launcher, launch)?;
     Ok(Flying {
         ticket,
         child,
@@ -67,26 +70,50 @@ where
     })
 }
 
-// Starts a command, which has to be its launch's.
+// Starts a command, which has to be its launch's by this launcher.
 fn begun<R: World>(
     rt: &R,
     command: &mut Command,
+    _launcher: &[Text],
     _launch: &Launch,
 ) -> Result<Child<R::Started>, Trouble>
-    requires { IsOf _launch.now command.old }
+    requires { IsOf _launcher.now _launch.now command.old }
 {
     Ok(command.spawn(rt)?)
 }
 
-// The command of a launch, without its streams.
-fn command_of(alloc: Global, launch: &Launch) -> Result<Command, Trouble>
-    ensures { IfOk result (IsOf launch.now) }
+// The command of a launch by a launcher, without its streams. The launcher stands in the environment and the folder of the launch too.
+fn command_of(alloc: Global, launcher: &[Text], launch: &Launch) -> Result<Command, Trouble>
+    ensures { IfOk result (IsOf launcher.now launch.now) }
 {
     let Some((program, words)) = launch.words.as_slice().split_first() else {
         return Err(Trouble::Failed);
     };
+    match launcher.split_first() {
+        None => command_with(alloc, launch, program, words, &[]),
+        Some((first, others)) => {
+            command_with(alloc, launch, first, others, launch.words.as_slice())
+        }
+    }
+}
+
+// A program, these arguments and the last ones, in the environment and the folder of a launch.
+fn command_with(
+    alloc: Global,
+    launch: &Launch,
+    program: &Text,
+    words: &[Text],
+    last: &[Text],
+) -> Result<Command, Trouble>
+    ensures program { IfOk result (λ command. command_program command ≡ program.now) }
+    ensures args { IfOk result (λ command. command_args command ≡ words.now ++ last.now) }
+    ensures alone { IfOk result (λ command. clears_env command ≡ true) }
+    ensures env { IfOk result (λ command. (name : List ℕ) → command_var command name
+        ≡ text_under name launch.now.env) }
+    ensures dir { IfOk result (λ command. command_dir command ≡ Some launch.now.dir) }
+{
     let mut command = command_in(alloc, program, launch.env.as_slice())?;
-    match add_words_and_folder(&mut command, words, &launch.dir) {
+    match add_words_and_folder(&mut command, words, last, &launch.dir) {
         Ok(()) => Ok(command),
         Err(trouble) => {
             mem::drop(command);
@@ -95,14 +122,20 @@ fn command_of(alloc: Global, launch: &Launch) -> Result<Command, Trouble>
     }
 }
 
-fn add_words_and_folder(command: &mut Command, words: &[Text], folder: &Text) -> Result<(), Trouble>
+fn add_words_and_folder(
+    command: &mut Command,
+    words: &[Text],
+    last: &[Text],
+    folder: &Text,
+) -> Result<(), Trouble>
     requires { command_args command.old ≡ [] }
-    ensures args { OnOk result (command_args command.new ≡ words.now) }
+    ensures args { OnOk result (command_args command.new ≡ words.now ++ last.now) }
     ensures program { OnOk result (command_program command.new ≡ command_program command.old) }
     ensures env { OnOk result (SameEnv command.old command.new) }
     ensures dir { OnOk result (command_dir command.new ≡ Some folder.now) }
 {
     add_words(command, words)?;
+    add_words(command, last)?;
     command.current_dir(folder.as_str())?;
     Ok(())
 }
@@ -134,9 +167,9 @@ fn set_variable(command: &mut Command, variable: &Variable) -> Result<(), AllocE
     Ok(())
 }
 
+// Adds words behind those that are there.
 fn add_words(command: &mut Command, words: &[Text]) -> Result<(), Trouble>
-    requires { command_args command.old ≡ [] }
-    ensures args { OnOk result (command_args command.new ≡ words.now) }
+    ensures args { OnOk result (command_args command.new ≡ command_args command.old ++ words.now) }
     ensures program { OnOk result (command_program command.new ≡ command_program command.old) }
     ensures env { OnOk result (SameEnv command.old command.new) }
 {
