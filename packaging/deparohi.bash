@@ -23,6 +23,10 @@ _deparohi() {
         COMPREPLY=($(compgen -W "docker podman apptainer" -- "$word"))
         return
         ;;
+    --launcher)
+        COMPREPLY=($(compgen -c -- "$word"))
+        return
+        ;;
     --environment)
         COMPREPLY=($(compgen -v -- "$word"))
         return
@@ -37,9 +41,9 @@ _deparohi() {
         return
     fi
     case $command in
-    run) every="--work --outdir --slots --parallel --retries --record --archive --cache --budget --base --rate --prefer-kept --verbose --progress --progress-json --keep --keep-failed --validate --template --print-command $import $every" ;;
-    plan) every="--dot --work --outdir --slots --parallel --retries --record --archive --cache --budget --base --rate --prefer-kept $import $every" ;;
-    record) every="--forget $every" ;;
+    run) every="--work --outdir --slots --parallel --retries --launcher --record --archive --cache --budget --base --rate --prefer-kept --verbose --progress --progress-json --keep --keep-failed --validate --template --print-command $import $every" ;;
+    plan) every="--dot --work --outdir --slots --parallel --retries --launcher --record --archive --cache --budget --base --rate --prefer-kept $import $every" ;;
+    record) every="--forget --budget $every" ;;
     help) every="" ;;
     esac
     COMPREPLY=($(compgen -W "$every" -- "$word"))

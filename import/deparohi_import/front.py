@@ -17,7 +17,7 @@ from .program import FAILED, for_stdout, say
 from .reading import read_text
 
 # The options of the proved program that take a value.
-VALUED = ("--work", "--outdir", "--slots", "--retries", "--record", "--archive", "--cache", "--budget", "--base", "--rate")
+VALUED = ("--work", "--outdir", "--slots", "--retries", "--launcher", "--record", "--archive", "--cache", "--budget", "--base", "--rate")
 WORK, MADE_BY = "cwl-work", "made-by"
 # What is no such document at all is wrong; any other document that is refused has something that this runner doesn't take.
 WRONG_DOCUMENT = Pattern(rb"^refused: (C1|C4|C8|K[0-9])", re.M)

@@ -1,8 +1,8 @@
--- What asks for a number of bytes by one with a suffix: what stands behind `--budget`, of the commands `run` and `plan`, up to a word `--`.
-use Rattle.std.specs.Prelude.{ℕ, ◌-◌, ◌*◌, ◌^◌, List, [], ◌∷◌, ◌++◌, Option, None, bytes_eq, codes, decimal, drop, eqb, fold, if◌then◌else◌, length, option_map, take, unwrap_or}
+-- What asks for a number of bytes by one with a suffix: what stands behind `--budget`, of the commands `run`, `plan` and `record`, up to a word `--`.
+use Rattle.std.specs.Prelude.{ℕ, Bool, ◌&&◌, ◌||◌, ◌-◌, ◌*◌, ◌^◌, List, [], ◌∷◌, ◌++◌, Option, None, bytes_eq, codes, decimal, drop, eqb, fold, if◌then◌else◌, length, option_map, take, unwrap_or}
 use Rattle.std.specs.List.{ends_with, starts_with}
 use Rattle.given_words.specs.Processors.{number_in}
-use Rattle.given_words.specs.Slots.{has_options, last_of}
+use Rattle.given_words.specs.Slots.{are_open, command_of, last_of}
 
 -- so many times the number of a text
 abbrev pub counted : List ℕ → (factor : ℕ) → Option ℕ
@@ -28,6 +28,13 @@ budget_word before word =
     if starts_with eqb word (codes "--budget=") then codes "--budget=" ++ plain_number (drop 9 word)
     else if bytes_eq (last_of before) (codes "--budget") then plain_number word
     else word
+
+-- the command takes a budget, and the options go on behind these words
+abbrev pub takes_budget : List ℕ → Bool
+takes_budget command = bytes_eq command (codes "run") || bytes_eq command (codes "plan") || bytes_eq command (codes "record")
+
+abbrev pub has_options : List (List ℕ) → Bool
+has_options words = takes_budget (command_of words) && are_open words
 
 -- the word that comes behind these in place of this one
 abbrev pub next_word : (before : List (List ℕ)) → List ℕ → List ℕ

@@ -3,14 +3,21 @@
 use Rattle.std.specs.Prelude.{ℕ, Bool, not, ◌&&◌, ◌||◌, ◌-◌, List, [], ◌∷◌, ◌++◌, length, fold, codes, decimal, bytes_eq, if◌then◌else◌, slice_index_or}
 use Rattle.std.specs.List.{list_any}
 
--- the command behind the program's name takes slots
+-- the word behind the program's name; none is the empty one
+abbrev pub command_of : List (List ℕ) → List ℕ
+command_of words = slice_index_or words 1 []
+
+-- that command takes slots
 abbrev pub takes_slots : List (List ℕ) → Bool
-takes_slots words =
-    let command = slice_index_or words 1 [] in bytes_eq command (codes "run") || bytes_eq command (codes "plan")
+takes_slots words = bytes_eq (command_of words) (codes "run") || bytes_eq (command_of words) (codes "plan")
+
+-- no word says that options end
+abbrev pub are_open : List (List ℕ) → Bool
+are_open words = not (list_any (λ word. bytes_eq word (codes "--")) words)
 
 -- the options go on behind these words
 abbrev pub has_options : List (List ℕ) → Bool
-has_options words = takes_slots words && not (list_any (λ word. bytes_eq word (codes "--")) words)
+has_options words = takes_slots words && are_open words
 
 abbrev pub asks_for_all : List ℕ → Bool
 asks_for_all word = bytes_eq word (codes "--parallel") || bytes_eq word (codes "--slots=all")

@@ -4,7 +4,7 @@ ghost use Rattle.std.specs.List.{ends_with, starts_with};
 ghost use Rattle.given_words.specs.Budget as spec;
 
 use crate::processors::number_in;
-use crate::slots::{has_options, last_of};
+use crate::slots::{are_open, command_of, last_of};
 use std::alloc::{AllocError, Global};
 
 /// Returns the words with a plain number in the place of one with a suffix k, M, G or T, which stands for a power of 1,000, behind
@@ -30,6 +30,13 @@ fn next_word(alloc: Global, before: &[String], word: &str) -> Result<String, All
         return budget_word(alloc, before, word);
     }
     String::from_str(alloc, word)
+}
+
+// Whether the words are those of a command that takes a budget, and options may follow.
+fn has_options(words: &[String]) -> bool
+    ensures { result ≡ spec.has_options (map string_bytes words.now) }
+{
+    matches!(command_of(words), "run" | "plan" | "record") && are_open(words)
 }
 
 fn budget_word(alloc: Global, before: &[String], word: &str) -> Result<String, AllocError>

@@ -1,5 +1,5 @@
 //! Options that ask for as many jobs side by side as there are processors.
-ghost use Rattle.std.specs.Prelude.{◌≡◌, [], IfOk, bytes_eq, if◌then◌else◌, map, slice_index_or, string_bytes};
+ghost use Rattle.std.specs.Prelude.{◌≡◌, IfOk, bytes_eq, if◌then◌else◌, map, string_bytes};
 ghost use Rattle.std.specs.List.{list_any};
 ghost use Rattle.given_words.specs.Slots as spec;
 
@@ -48,7 +48,14 @@ fn slot_word(alloc: Global, before: &[String], word: &str, count: u64) -> Result
 pub(crate) fn has_options(words: &[String]) -> bool
     ensures { result ≡ spec.has_options (map string_bytes words.now) }
 {
-    takes_slots(words) && !has_word(words, "--")
+    takes_slots(words) && are_open(words)
+}
+
+// Whether no word says that options end.
+pub(crate) fn are_open(words: &[String]) -> bool
+    ensures { result ≡ spec.are_open (map string_bytes words.now) }
+{
+    !has_word(words, "--")
 }
 
 fn takes_slots(words: &[String]) -> bool
@@ -58,8 +65,8 @@ fn takes_slots(words: &[String]) -> bool
 }
 
 // The word behind the program's name; none is the empty one.
-fn command_of(words: &[String]) -> &str
-    ensures { result.now ≡ slice_index_or (map string_bytes words.now) 1 [] }
+pub(crate) fn command_of(words: &[String]) -> &str
+    ensures { result.now ≡ spec.command_of (map string_bytes words.now) }
 {
     match words.get(1) {
         None => "",

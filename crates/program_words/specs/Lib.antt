@@ -3,6 +3,7 @@ pub mod Flags
 pub mod JobLines
 pub mod JobObjects
 pub mod JsonWord
+pub mod Launcher
 pub mod PlanWords
 pub mod Progress
 pub mod RecordWords

@@ -23,13 +23,16 @@ named_rule id = record (new_rule id) { long = Some id; action = Some Set; value_
 abbrev pub numbered_rule : Text → ℕ → ℕ → Rule
 numbered_rule id least most = record (named_rule id) { parser = Some (Unsigned least most) }
 
--- the options of each run, and of each plan of one: its folders, how many jobs run side by side and how often one is started again, what is kept and
--- how many bytes of it, and what a load costs
+-- the options of each run, and of each plan of one: its folders, how many jobs run side by side, how often one is started again and what stands before
+-- its command, what is kept and how many bytes of it, and what a load costs
 abbrev pub folder_rules : List Rule
 folder_rules = named_rule (codes "work") ∷ (named_rule (codes "outdir") ∷ [])
 
 abbrev pub number_rules : List Rule
 number_rules = numbered_rule (codes "slots") 1 64 ∷ (numbered_rule (codes "retries") 0 10 ∷ [])
+
+abbrev pub job_rules : List Rule
+job_rules = number_rules ++ named_rule (codes "launcher") ∷ []
 
 abbrev pub store_rules : List Rule
 store_rules = named_rule (codes "record") ∷ (named_rule (codes "archive") ∷ (named_rule (codes "cache") ∷ (numbered_rule (codes "budget") 0 9223372036854775807 ∷ [])))
@@ -38,7 +41,7 @@ abbrev pub cost_rules : List Rule
 cost_rules = numbered_rule (codes "base") 0 1000000000000 ∷ (numbered_rule (codes "rate") 1 1000000000000 ∷ [])
 
 abbrev pub shared_rules : List Rule
-shared_rules = folder_rules ++ number_rules ++ store_rules ++ cost_rules
+shared_rules = folder_rules ++ job_rules ++ store_rules ++ cost_rules
 
 -- those of `run` alone: what it tells of its jobs, whether its work folder stays, and what it shows in place of a run's outputs
 abbrev pub telling_rules : List Rule
@@ -68,9 +71,10 @@ telling_in rows =
     else if is_wanted (codes "progress") rows then OneLine
     else Nothing
 
--- the document, the input object's file where one is named, the two folders, the texts of the two numbers that are given, the record's file, the
--- archive's folder and a cache's where they are named, the texts of how many bytes are kept and of what a load costs where they are given, whether the
--- work folder is to stay, and whether it is to stay after a failure, how to tell of the jobs, what to show, and whether to say in words what went wrong
+-- the document, the input object's file where one is named, the two folders, the texts of the two numbers and of the launcher that are given, the
+-- record's file, the archive's folder and a cache's where they are named, the texts of how many bytes are kept and of what a load costs where they are
+-- given, whether the work folder is to stay, and whether it is to stay after a failure, how to tell of the jobs, what to show, and whether to say in
+-- words what went wrong
 pub record RunWish : Type 0 where
   pub document : Text
   pub inputs : Option Text
@@ -78,6 +82,7 @@ pub record RunWish : Type 0 where
   pub outdir : Text
   pub slots : Option Text
   pub retries : Option Text
+  pub launcher : Option Text
   pub record_file : Option Text
   pub archive : Option Text
   pub cache : Option Text
@@ -99,6 +104,7 @@ run_wish rows = record {
   outdir = unwrap_or (first_of (codes "outdir") rows) (codes ".");
   slots = first_of (codes "slots") rows;
   retries = first_of (codes "retries") rows;
+  launcher = first_of (codes "launcher") rows;
   record_file = first_of (codes "record") rows;
   archive = first_of (codes "archive") rows;
   cache = first_of (codes "cache") rows;
@@ -120,6 +126,7 @@ wish_of_run words = record {
   outdir = words.outdir.now;
   slots = option_map (λ s. s.now) words.slots;
   retries = option_map (λ s. s.now) words.retries;
+  launcher = option_map (λ s. s.now) words.launcher;
   record_file = option_map (λ s. s.now) words.record_file;
   archive = option_map (λ s. s.now) words.archive;
   cache = option_map (λ s. s.now) words.cache;

@@ -13,6 +13,7 @@
 mod command;
 mod flags;
 mod json_word;
+mod launcher;
 mod laws;
 mod objects;
 mod planning;
@@ -30,10 +31,11 @@ mod version;
 
 pub use command::{Choice, choice_of};
 pub use json_word::name_json_word;
+pub use launcher::launcher_of;
 pub use laws::{line_is_one_command, text_is_one_word};
 pub use planning::PlanWords;
 pub use progress::{Counts, Longest};
-pub use record_words::RecordWords;
+pub use record_words::{RecordWords, trim_of};
 pub use reuse::{Recalled, Why, reason_for};
 pub use run_words::{RunWords, budget_of, load_base_of, load_rate_of, retries_of, slots_of};
 pub use savings::{Savings, savings_line};

@@ -2,7 +2,7 @@ ghost use Rattle.std.specs.Prelude.{◌≡◌, ◌≤◌, ◌^◌, ◌++◌, IfO
 ghost use Rattle.std.specs.List.{fold};
 ghost use Rattle.clap.specs.Words.{app_of, found_of, kind_of, new_app, rows_of, rule_of, with_rule};
 ghost use Rattle.program_words.specs.Flags.{IsLocal};
-ghost use Rattle.program_words.specs.RunWords.{IsBudget, IsChosen, folder_rules, input_rules, keeping_rules, named_rule, number_rules, numbered_rule, placed_rule, run_command, run_rules, run_wish, shared_rules, store_rules, telling_in, telling_rules, wish_of_run};
+ghost use Rattle.program_words.specs.RunWords.{IsBudget, IsChosen, folder_rules, input_rules, job_rules, keeping_rules, named_rule, numbered_rule, placed_rule, run_command, run_rules, run_wish, shared_rules, store_rules, telling_in, telling_rules, wish_of_run, number_rules};
 
 use crate::flags::{RUN_END, is_given, is_wanted, with_flag, with_flags};
 use crate::shows::{Shows, shows_of};
@@ -24,7 +24,7 @@ const USUAL_BASE: u64 = 1;
 const LEAST_RATE: u64 = 1;
 
 /// The most bytes of a budget: what a record counts to.
-const MOST_BUDGET: u64 = 9_223_372_036_854_775_807;
+pub const MOST_BUDGET: u64 = 9_223_372_036_854_775_807;
 
 const USUAL_RATE: u64 = 100_000;
 
@@ -37,6 +37,9 @@ const SLOTS_HELP: &str =
 
 const RETRIES_HELP: &str =
     "How often a job that fails temporarily is started again, from 0 to 10 [0]";
+
+const LAUNCHER_HELP: &str =
+    "Words that stand before the command of each job, as 'srun -n1': they are parted at spaces, without quoting";
 
 const RECORD_HELP: &str =
     "The file of a record, made if it is absent, which keeps what each job gives and ends a run that gives something else";
@@ -91,6 +94,8 @@ pub struct RunWords<'a> {
     pub outdir: &'a str,
     pub slots: Option<&'a str>,
     pub retries: Option<&'a str>,
+    /// The text of the words that stand before the command of each job.
+    pub launcher: Option<&'a str>,
     /// The file of the record that is asked for the jobs; without it the record ends with the run.
     pub record_file: Option<&'a str>,
     /// The folder that keeps the files of jobs; without it none are kept, and each job is computed.
@@ -188,8 +193,8 @@ pub fn with_named<'a>(
     Ok(command)
 }
 
-// A command with an option that has a number within limits.
-fn with_numbered<'a>(
+/// A command with an option that has a number within limits.
+pub fn with_numbered<'a>(
     alloc: Global,
     command: Command<'a>,
     id: &'a str,
@@ -233,15 +238,27 @@ fn with_numbers<'a>(alloc: Global, command: Command<'a>) -> Result<Command<'a>, 
     with_numbered(alloc, command, "retries", 0, MOST_RETRIES, RETRIES_HELP)
 }
 
-// And with the record, the archive, the cache, and how much is kept.
-fn with_cache<'a>(alloc: Global, command: Command<'a>) -> Result<Command<'a>, Error>
+// And with what starts a job.
+fn with_jobs<'a>(alloc: Global, command: Command<'a>) -> Result<Command<'a>, Error>
     requires { IsLocal command }
     ensures ok { IfOk result (λ whole. app_of whole
-        ≡ fold with_rule (app_of command.entry) (folder_rules ++ number_rules ++ store_rules)) }
+        ≡ fold with_rule (app_of command.entry) (folder_rules ++ job_rules)) }
     ensures local { IfOk result IsLocal }
     ensures err { IfErr result (λ e. kind_of e ≡ ErrorKind.OutOfMemory) }
 {
     let command = with_numbers(alloc, command)?;
+    with_named(alloc, command, "launcher", "WORDS", LAUNCHER_HELP)
+}
+
+// And with the record, the archive, the cache, and how much is kept.
+fn with_cache<'a>(alloc: Global, command: Command<'a>) -> Result<Command<'a>, Error>
+    requires { IsLocal command }
+    ensures ok { IfOk result (λ whole. app_of whole
+        ≡ fold with_rule (app_of command.entry) (folder_rules ++ job_rules ++ store_rules)) }
+    ensures local { IfOk result IsLocal }
+    ensures err { IfErr result (λ e. kind_of e ≡ ErrorKind.OutOfMemory) }
+{
+    let command = with_jobs(alloc, command)?;
     let command = with_named(alloc, command, "record", "FILE", RECORD_HELP)?;
     let command = with_named(alloc, command, "archive", "DIR", ARCHIVE_HELP)?;
     let command = with_named(alloc, command, "cache", "DIR", CACHE_HELP)?;
@@ -337,6 +354,7 @@ pub fn run_words<'a>(words: &ArgMatches<'a>) -> RunWords<'a>
         outdir: words.get_str("outdir").unwrap_or("."),
         slots: words.get_str("slots"),
         retries: words.get_str("retries"),
+        launcher: words.get_str("launcher"),
         record_file: words.get_str("record"),
         archive: words.get_str("archive"),
         cache: words.get_str("cache"),
@@ -394,7 +412,14 @@ pub fn retries_of(words: &RunWords) -> u64
 pub fn budget_of(words: &RunWords) -> Option<u64>
     ensures { IsBudget (option_map (λ s. s.now) words.now.budget) result }
 {
-    match words.budget {
+    budget_in(words.budget)
+}
+
+/// The number of bytes that a budget's text gives.
+pub fn budget_in(budget: Option<&str>) -> Option<u64>
+    ensures { IsBudget (option_map (λ s. s.now) budget.entry) result }
+{
+    match budget {
         None => None,
         Some(text) => Some(read_or(text, 0, MOST_BUDGET, MOST_BUDGET)),
     }

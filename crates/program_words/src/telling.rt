@@ -1,11 +1,13 @@
 //! What a run says of its jobs on standard error while it goes on.
-ghost use Rattle.std.specs.Prelude.{◌≡◌, ◌≢◌, List, ℕ, ◌++◌, Some, codes, IfOk, OnOk, string_bytes};
+ghost use Rattle.std.specs.Prelude.{◌≡◌, ◌≢◌, List, ℕ, ◌++◌, Some, codes, option_map, IfOk, OnOk, string_bytes};
 ghost use Rattle.std.specs.Io.KnownBytes.{Appends};
 ghost use Rattle.program_words.specs.JobLines as spec;
 ghost use Rattle.program_words.specs.JobObjects as objects;
+ghost use Rattle.program_words.specs.Launcher.{launched as as_launched};
 ghost use Rattle.program_words.specs.Progress as progress;
 ghost use Rattle.program_words.specs.Savings.{savings_line};
 
+use crate::launcher::launched;
 use crate::objects::{
     command_json, end_object, load_object, omit_object, start_object, words_json,
 };
@@ -87,13 +89,20 @@ pub struct Teller<'a, E: Write> {
     alloc: Global,
     err: &'a mut E,
     telling: Telling,
+    // the text of the words that stand before each command
+    launcher: Option<&'a str>,
     // the command that is about to be started, as JSON text, if its start is said in JSON
     command: Option<Text>,
 }
 
 impl<'a, E: Write> Teller<'a, E> {
-    /// Makes one that says so, on this writer.
-    pub fn new(alloc: Global, err: &'a mut E, telling: Telling) -> Teller<'a, E>
+    /// Makes one that says so, on this writer, of jobs whose commands stand behind the words of a launcher's text.
+    pub fn new(
+        alloc: Global,
+        err: &'a mut E,
+        telling: Telling,
+        launcher: Option<&'a str>,
+    ) -> Teller<'a, E>
         ensures told { result.telling ≡ telling }
         ensures err { E.contents result.err.now ≡ E.contents err.old }
     {
@@ -101,6 +110,7 @@ impl<'a, E: Write> Teller<'a, E> {
             alloc,
             err,
             telling,
+            launcher,
             command: None,
         }
     }
@@ -164,14 +174,16 @@ impl<'a, E: Write> Teller<'a, E> {
         ensures silent { self.old.telling ≢ Telling.Lines → E.contents self.new.err.now
             ≡ E.contents self.old.err.now }
         ensures told { OnOk result (self.old.telling ≡ Telling.Lines → (line : List ℕ)
-            × spec.IsStartLine place.now launch.now counts line
+            × spec.IsStartLine place.now (as_launched (option_map (λ s. s.now) self.old.launcher)
+            launch.now) counts line
             × Appends (E.contents self.old.err.now) (E.contents self.new.err.now) (line
             ++ codes "\n")) }
     {
         if !matches!(self.telling, Telling::Lines) {
             return Ok(());
         }
-        let line = start_line(self.alloc, place, launch, counts)?;
+        let launch = launched(self.alloc, self.launcher, launch)?;
+        let line = start_line(self.alloc, place, &launch, counts)?;
         writeln!(self.err, "{line}")
     }
 

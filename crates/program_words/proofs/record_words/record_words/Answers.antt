@@ -12,4 +12,6 @@ returns c =
     or_other _ _ _ _ (codes "") (c.get_str.ensures ∙ first_value-rows found (codes "FILE")) c.unwrap_or.ensures refl in
     let forget : option_map (λ s. s.now) c.get_str-2.result ≡ first_of (codes "forget") (rows_of found) =
     c.get_str-2.ensures ∙ first_value-rows found (codes "forget") in
-    rw (file, forget, c.is_wanted.ensures) refl
+    let budget : option_map (λ s. s.now) c.get_str-3.result ≡ first_of (codes "budget") (rows_of found) =
+    c.get_str-3.ensures ∙ first_value-rows found (codes "budget") in
+    rw (file, forget, budget, c.is_wanted.ensures) refl

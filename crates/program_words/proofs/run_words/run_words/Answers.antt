@@ -20,16 +20,18 @@ returns c =
     c.get_str-5.ensures ∙ first_value-rows found (codes "slots") in
     let retries : option_map (λ s. s.now) c.get_str-6.result ≡ first_of (codes "retries") (rows_of found) =
     c.get_str-6.ensures ∙ first_value-rows found (codes "retries") in
-    let record_file : option_map (λ s. s.now) c.get_str-7.result ≡ first_of (codes "record") (rows_of found) =
-    c.get_str-7.ensures ∙ first_value-rows found (codes "record") in
-    let archive : option_map (λ s. s.now) c.get_str-8.result ≡ first_of (codes "archive") (rows_of found) =
-    c.get_str-8.ensures ∙ first_value-rows found (codes "archive") in
-    let cache : option_map (λ s. s.now) c.get_str-9.result ≡ first_of (codes "cache") (rows_of found) =
-    c.get_str-9.ensures ∙ first_value-rows found (codes "cache") in
-    let budget : option_map (λ s. s.now) c.get_str-10.result ≡ first_of (codes "budget") (rows_of found) =
-    c.get_str-10.ensures ∙ first_value-rows found (codes "budget") in
-    let base : option_map (λ s. s.now) c.get_str-11.result ≡ first_of (codes "base") (rows_of found) =
-    c.get_str-11.ensures ∙ first_value-rows found (codes "base") in
-    let rate : option_map (λ s. s.now) c.get_str-12.result ≡ first_of (codes "rate") (rows_of found) =
-    c.get_str-12.ensures ∙ first_value-rows found (codes "rate") in
-    rw (document, inputs, work, outdir, slots, retries, record_file, archive, cache, budget, base, rate, c.is_given.ensures, c.is_given-2.ensures, c.telling_of.ensures, c.shows_of.ensures, c.is_wanted.ensures) refl
+    let launcher : option_map (λ s. s.now) c.get_str-7.result ≡ first_of (codes "launcher") (rows_of found) =
+    c.get_str-7.ensures ∙ first_value-rows found (codes "launcher") in
+    let record_file : option_map (λ s. s.now) c.get_str-8.result ≡ first_of (codes "record") (rows_of found) =
+    c.get_str-8.ensures ∙ first_value-rows found (codes "record") in
+    let archive : option_map (λ s. s.now) c.get_str-9.result ≡ first_of (codes "archive") (rows_of found) =
+    c.get_str-9.ensures ∙ first_value-rows found (codes "archive") in
+    let cache : option_map (λ s. s.now) c.get_str-10.result ≡ first_of (codes "cache") (rows_of found) =
+    c.get_str-10.ensures ∙ first_value-rows found (codes "cache") in
+    let budget : option_map (λ s. s.now) c.get_str-11.result ≡ first_of (codes "budget") (rows_of found) =
+    c.get_str-11.ensures ∙ first_value-rows found (codes "budget") in
+    let base : option_map (λ s. s.now) c.get_str-12.result ≡ first_of (codes "base") (rows_of found) =
+    c.get_str-12.ensures ∙ first_value-rows found (codes "base") in
+    let rate : option_map (λ s. s.now) c.get_str-13.result ≡ first_of (codes "rate") (rows_of found) =
+    c.get_str-13.ensures ∙ first_value-rows found (codes "rate") in
+    rw (document, inputs, work, outdir, slots, retries, launcher, record_file, archive, cache, budget, base, rate, c.is_given.ensures, c.is_given-2.ensures, c.telling_of.ensures, c.shows_of.ensures, c.is_wanted.ensures) refl

@@ -1,6 +1,6 @@
 use Rattle.std.proofs.Common.{List, ℕ, Option, Some, None, Bor, option_map, subst, sym}
 use Rattle.program_words.specs.RunWords.{IsBudget, limited, unlimited}
-use Rattle.program_words.proofs.run_words.budget_of.Goals as goal
+use Rattle.program_words.proofs.run_words.budget_in.Goals as goal
 
 pub returns-in-None : goal.returns-in-None
 returns-in-None c =
