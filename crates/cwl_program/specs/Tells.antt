@@ -1,5 +1,5 @@
 -- What the program writes to its two writers for these words and this `PATH`, and the status that it then answers.
-use Rattle.std.specs.Prelude.{◌≡◌, ◌≢◌, ◌⊎◌, ⊤, ℕ, codes, List, Bool, false, Option, None}
+use Rattle.std.specs.Prelude.{◌≡◌, ◌≢◌, ◌⊎◌, ⊤, ℕ, codes, List, Bool, false, Option, None, Some, IsSome}
 use Rattle.clap.specs.Words.{IsAmong, Text, fault_of}
 use Rattle.clap.specs.declared.error.ErrorKind.{ErrorKind}
 use Rattle.clap.specs.declared.error.ErrorKind.TheVariants.{DisplayHelp, DisplayVersion}
@@ -7,9 +7,10 @@ use Rattle.job_rows.specs.declared.record.Record.{Ghosts as RowsOf}
 use Rattle.record_program.specs.Endings as record_program
 use Rattle.record_program.specs.declared.file.Records.{Ghosts as RecordsOf}
 use Rattle.record_program.specs.declared.ending.Ending.{Ending}
+use Rattle.record_program.specs.declared.ending.Ending.TheVariants.{Input}
 use Rattle.program_words.specs.CommandLine.{Asks, command_line, wish_of}
 use Rattle.program_words.specs.RecordWords.{RecordWish, wish_of_record}
-use Rattle.program_words.specs.RunWords.{RunWish, wish_of_run}
+use Rattle.program_words.specs.RunWords.{IsBudget, RunWish, wish_of_run}
 use Rattle.program_words.specs.declared.command.Choice.{Choice}
 use Rattle.program_words.specs.declared.command.Choice.TheVariants.{Demo, Check, Run, Plan, Record}
 use Rattle.program_words.specs.declared.savings.Savings.{Savings}
@@ -33,10 +34,22 @@ abbrev pub IsRecordFile : (name file : Text) → Type 0
 IsRecordFile name file = (file ≡ name) ⊎ (file ≡ within name (codes "jobs.db"))
 
 module _ {R K L : Type 0} (records : RecordsOf R K L) (rows : RowsOf K) (rt : R) where
-  -- the command of a record ends the program in its own way, on the file that is named
+  -- archives of a cache go until the others have at most so many bytes, and what is left is shown
+  pub data IsTrim (cache : Text) (budget : ℕ) : Exit → Type 0 where
+    trims : (ending : Ending) (lost : List Text) → record_program.IsEnding ending →
+        records.trims rt (within cache (codes "jobs.db")) budget ending lost → IsTrim cache budget (Listed ending)
+    -- the name leads to nothing that can be looked at
+    absent : IsTrim cache budget (Listed Input)
+    -- or to no folder
+    no_cache : IsTrim cache budget (Fault faults.RecordWords)
+
+  -- the command of a record ends the program in its own way, on the file that is named, or on that of the cache which is named
   pub data IsRecordExit (wish : RecordWish) : Exit → Type 0 where
-    shows : (file : Text) (ending : Ending) → IsRecordFile wish.file file → record_program.IsEnding ending →
+    shows : (file : Text) (ending : Ending) → IsBudget wish.budget None → IsRecordFile wish.file file → record_program.IsEnding ending →
         records.ends rt file wish.forget ending → IsRecordExit wish (Listed ending)
+    is_trim : {exit : Exit} (budget : ℕ) → IsBudget wish.budget (Some budget) → wish.forget ≡ None → IsTrim wish.file budget exit → IsRecordExit wish exit
+    -- rows are to be forgotten too
+    misused : (budget : ℕ) → IsBudget wish.budget (Some budget) → IsSome wish.forget → IsRecordExit wish (Fault faults.RecordWords)
 
   -- a run, or what is shown in place of one, which leaves nothing
   abbrev pub IsEndOfWords : Shows → RunWish → (path : Text) → Exit → (left : Option Text) → Type 0

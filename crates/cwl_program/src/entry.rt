@@ -1,16 +1,14 @@
 ghost use Rattle.std.specs.Prelude.{◌≡◌, ◌≢◌, None, Ok, IfOk, IfErr, OnOk, OnErr, map, string_bytes};
 ghost use Rattle.clap.specs.Words.{HasKind, fault_of, kind_of};
 ghost use Rattle.program_words.specs.CommandLine.{Asks, command_line};
-ghost use Rattle.program_words.specs.RecordWords.{wish_of_record};
 ghost use Rattle.program_words.specs.RunWords.{wish_of_run};
 ghost use Rattle.end_words.specs.Told.{IsTold, Says};
-ghost use Rattle.cwl_program.specs.Tells.{Explains, IsEndOf, IsEndOfWords, IsRecordExit, IsRecordFile, IsRunTold, LeadsTo, Tells, asks_why, telling_of};
+ghost use Rattle.cwl_program.specs.Tells.{Explains, IsEndOf, IsEndOfWords, IsRunTold, LeadsTo, Tells, asks_why, telling_of};
 
-use crate::caches::{RECORD, within};
 use crate::certificate::exit_of_check;
 use crate::demo::exit_of_demo;
-use crate::forgetting::remove_forgotten;
 use crate::plan::end_of_plan;
+use crate::record_exit::exit_of_record;
 use crate::run::end_of_process;
 use crate::showing::end_of_showing;
 use crate::standard_output::StandardOutput;
@@ -19,10 +17,9 @@ use clap::Error;
 use clap::error::ErrorKind;
 use end_words::{Exit, Fault, RunEnd, explain_exit, put_left, put_notes, put_savings, put_unkept};
 use given_words::{with_budget, with_preference, with_slots};
-use plain_data::Text;
 use process_machine::World;
 use program_words::{
-    Choice, RecordWords, RunWords, Shows, Telling, add_explain_word, add_terminal_words, choice_of,
+    Choice, RunWords, Shows, Telling, add_explain_word, add_terminal_words, choice_of,
     name_json_word,
 };
 use record_program::{Ending, Records};
@@ -31,7 +28,7 @@ use std::env::VarError;
 use std::io::{IsTerminal, Stdout, Write};
 use std::process::{ExitCode, Stdio};
 use std::rt::Env;
-use std::{env, fs, io, mem};
+use std::{env, io, mem};
 
 /// The status of a fault, and of a command line that is refused.
 const FAULT: u8 = 3;
@@ -276,27 +273,6 @@ fn bare(alloc: Global, exit: Result<Exit, AllocError>) -> Result<RunEnd, AllocEr
     ensures left { IfOk result (λ end. end.left ≡ None) }
 {
     Ok(RunEnd::bare(alloc, exit?))
-}
-
-#[tactic(auto, using(crate::specs::Tells::shows))]
-fn exit_of_record<R: World + Records>(rt: &R, words: &RecordWords) -> Result<Exit, AllocError>
-    ensures { IfOk result (IsRecordExit R.Records R.Kept.Record rt.now (wish_of_record words.now)) }
-{
-    let file = record_at(rt, words.file)?;
-    let ending = rt.record_ending(file.as_str(), words.forget);
-    mem::drop(file);
-    let _removed = remove_forgotten(rt, words, &ending);
-    Ok(Exit::Record(ending))
-}
-
-/// The file of the record that is named: of a folder, that of the cache which it is.
-fn record_at<R: World>(rt: &R, name: &str) -> Result<Text, AllocError>
-    ensures { IfOk result (IsRecordFile name.now) }
-{
-    match fs::metadata(rt, name) {
-        Ok(metadata) if metadata.is_dir() => within(rt.alloc(), name, RECORD),
-        _ => Text::from_text(rt.alloc(), name),
-    }
 }
 
 /// Whether the choice asks for words on what went wrong.

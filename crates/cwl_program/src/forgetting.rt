@@ -1,9 +1,10 @@
-//! The files of rows that are forgotten.
+//! The files of rows that are forgotten, and of archives that went.
 
 use crate::caches::{FILES, within};
+use plain_data::Text;
 use process_machine::{World, remove_folder};
 use program_words::RecordWords;
-use record_program::Ending;
+use record_program::{Ending, sum_of_key};
 use std::alloc::AllocError;
 use std::fs;
 
@@ -21,6 +22,15 @@ pub fn remove_forgotten<R: World>(
         }
         _ => Ok(()),
     }
+}
+
+/// Removes the files that a cache keeps under these keys, whose archives went, and what stores of them left. What can't be removed stays.
+pub fn remove_lost<R: World>(rt: &R, cache: &str, lost: &[Text]) -> Result<(), AllocError> {
+    for key in lost {
+        let sum = sum_of_key(rt.alloc(), key.as_str())?;
+        remove_kept(rt, cache, sum.as_str())?;
+    }
+    Ok(())
 }
 
 fn is_folder<R: World>(rt: &R, name: &str) -> bool {

@@ -27,6 +27,7 @@ mod paths;
 mod plan;
 mod plan_texts;
 mod process_forms;
+mod record_exit;
 mod run;
 mod run_record;
 mod showing;

@@ -137,12 +137,20 @@ fn call_lines<R: World>(
     let mut lines = Vec::new(alloc);
     add_place(alloc, traces.failed_at(fault), &mut lines)?;
     match fault {
-        HostFault::Start => add_start(rt, host.log(), host.unstarted(), &mut lines)?,
+        HostFault::Start => add_unstarted(rt, host, &mut lines)?,
         HostFault::Stage => add_unstaged(alloc, host, &mut lines)?,
         HostFault::Scan => add_obstacle(alloc, host.unlisted(), &mut lines)?,
         _ => {}
     }
     Ok(lines)
+}
+
+fn add_unstarted<R: World>(
+    rt: &R,
+    host: &Machine<R>,
+    lines: &mut Vec<String>,
+) -> Result<(), AllocError> {
+    add_start(rt, host.log(), host.launcher(), host.unstarted(), lines)
 }
 
 fn add_unstaged<R: World>(

@@ -1,7 +1,8 @@
 //! A run over real processes and files, and a record.
-ghost use Rattle.std.specs.Prelude.{◌≡◌, [], None, Ok, IfOk};
+ghost use Rattle.std.specs.Prelude.{◌≡◌, [], None, Ok, IfOk, option_map};
 ghost use Rattle.run_core.specs.Limits.{IsWithinLimits};
 ghost use Rattle.workflow_check.specs.Checked.{fault_in};
+ghost use Rattle.program_words.specs.Launcher.{launcher_in};
 ghost use Rattle.program_words.specs.RunWords.{wish_of_run};
 ghost use Rattle.cwl_program.specs.Held.{IsHeld};
 ghost use Rattle.cwl_program.specs.Runs.{IsRanOver};
@@ -17,7 +18,7 @@ use crate::standard_input::file_of;
 use end_words::{Exit, Given, Places, RunEnd, exit_of_run};
 use job_rows::Record;
 use process_machine::{Deaf, Hear, Heard, Machine, World};
-use program_words::{Listen, RunWords, Savings, Silent, Teller, Telling};
+use program_words::{Listen, RunWords, Savings, Silent, Teller, Telling, launcher_of};
 use run_core::Options;
 use std::alloc::AllocError;
 use std::cell::RefCell;
@@ -66,7 +67,7 @@ fn memory_of<'a>(words: &RunWords<'a>) -> Memory<'a> {
     }
 }
 
-/// A machine of a run, which replaces none of the files that the run reads or holds.
+/// A machine of a run, which replaces none of the files that the run reads or holds, and puts the launcher's words before each command.
 fn guarded_machine<R: World>(
     rt: &R,
     given: &Given,
@@ -76,10 +77,14 @@ fn guarded_machine<R: World>(
     ensures idle { IfOk result (λ host. host.running ≡ []) }
     ensures guarded { IfOk result (λ host. IsHeld (wish_of_run words.now) given.now.files
         host.guarded) }
+    ensures launched { IfOk result (λ host. host.launcher
+        ≡ launcher_in (option_map (λ s. s.now) words.now.launcher)) }
 {
     let held = held_by(rt, given, words)?;
+    let launcher = launcher_of(rt.alloc(), words.launcher)?;
     let mut host = machine_of(rt, places, words.keep)?;
     host.guard(held);
+    host.launch_by(launcher);
     Ok(host)
 }
 
@@ -132,11 +137,11 @@ where
         }
         Telling::Lines => {
             host.show_messages();
-            let teller = Teller::new(rt.alloc(), err, words.telling);
+            let teller = Teller::new(rt.alloc(), err, words.telling, words.launcher);
             told_aloud(rt, host, given, options, teller, memory_of(words), rows)
         }
         Telling::OneLine | Telling::Objects => {
-            let teller = Teller::new(rt.alloc(), err, words.telling);
+            let teller = Teller::new(rt.alloc(), err, words.telling, words.launcher);
             told_by(rt, host, given, options, teller, words, rows)
         }
     }

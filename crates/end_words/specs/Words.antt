@@ -39,6 +39,7 @@ word_of (faults.Host fault name) = host_code fault
 word_of (faults.Record refusal) = record_code refusal
 word_of (faults.Unopened file fault) = opening_code fault
 word_of faults.Words = codes "words"
+word_of faults.RecordWords = codes "words"
 word_of faults.Folder = codes "input"
 word_of (faults.Unread name why) = codes "input"
 word_of faults.NoObject = codes "input"

@@ -79,6 +79,8 @@ pub enum Fault {
     Unopened(Text, RecordFault),
     /// The words name a cache beside a record or an archive.
     Words,
+    /// The words of `record` don't stand together, or name no cache.
+    RecordWords,
     /// The name of the current folder can't be found.
     Folder,
     /// The file of this name can't be read, and why.
@@ -133,7 +135,7 @@ impl Fault {
             Fault::Host(fault, _) => fault.code(),
             Fault::Record(refusal) => refusal.code(),
             Fault::Unopened(_, fault) => fault.code(),
-            Fault::Words => "words",
+            Fault::Words | Fault::RecordWords => "words",
             Fault::Folder | Fault::Unread(_, _) | Fault::NoObject => "input",
             Fault::Work(_, _) => "work",
             Fault::Outdir(_, _) => "H9",

@@ -402,6 +402,10 @@ fn fault_words(alloc: Global, fault: &Fault) -> Result<String, AllocError> {
                 "`--cache` has a record and an archive of its own, so it stands beside neither `--record` nor `--archive`",
             )
         }
+        Fault::RecordWords => String::from_str(
+            alloc,
+            "`--budget` needs the folder of a cache, and does not stand beside `--forget`",
+        ),
         Fault::Folder => {
             String::from_str(alloc, "the name of the current folder can't be found")
         }

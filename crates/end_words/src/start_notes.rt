@@ -3,6 +3,7 @@
 
 use crate::explaining::hindrance_words;
 use command_line::Launch;
+use plain_data::Text;
 use proc_host::{Entry, HostAnswer, HostFault};
 use process_machine::{Hindrance, Obstacle, Undelivered, Unlisted};
 use program_words::add_word;
@@ -19,11 +20,12 @@ const MOST_NAMES: usize = 10;
 /// The bits of a file's mode by which somebody may execute it.
 const EXECUTES: u32 = 0o111;
 
-/// Adds lines on a program that can't be started: the folders that it was looked for in if it was named without one, what is there, and
-/// what would do. If the command is too long, a line says that alone.
+/// Adds lines on a program that can't be started: the launcher if it is that, the folders that it was looked for in if it was named without
+/// one, what is there, and what would do. If the command is too long, a line says that alone.
 pub fn add_start<R: AllocGlobal + Files>(
     rt: &R,
     log: &[Entry],
+    launcher: &[Text],
     why: Option<Hindrance>,
     lines: &mut Vec<String>,
 ) -> Result<(), AllocError> {
@@ -34,12 +36,28 @@ pub fn add_start<R: AllocGlobal + Files>(
     let Some(launch) = unstarted(log) else {
         return Ok(());
     };
-    match launch.words.get(0) {
-        Some(program) if program.as_str().contains('/') => {
-            add_named(rt, launch, program.as_str(), lines)
+    match (launcher.first(), launch.words.get(0)) {
+        (Some(program), Some(_)) => {
+            lines.push(format!(in rt.alloc();
+                "the program that is started is its launcher's: {program}"
+            )?)?;
+            add_program(rt, launch, program.as_str(), lines)
         }
-        Some(program) => add_sought(rt, launch, program.as_str(), lines),
-        None => Ok(()),
+        (None, Some(program)) => add_program(rt, launch, program.as_str(), lines),
+        (_, None) => Ok(()),
+    }
+}
+
+fn add_program<R: AllocGlobal + Files>(
+    rt: &R,
+    launch: &Launch,
+    program: &str,
+    lines: &mut Vec<String>,
+) -> Result<(), AllocError> {
+    if program.contains('/') {
+        add_named(rt, launch, program, lines)
+    } else {
+        add_sought(rt, launch, program, lines)
     }
 }
 

@@ -8,6 +8,7 @@ use Rattle.std.proofs.lemmas.Slice.Eq.{bytes_eq-Decides}
 use Rattle.sqlite.specs.Store.{Ghosts}
 use Rattle.sqlite.specs.declared.types.Value.TheVariants.{Int}
 use Rattle.sqlite.specs.Order.{Row as Columns, column}
+use Rattle.sqlite.specs.Table.{Table}
 use Rattle.sqlite.specs.Effect.{Database}
 use Rattle.sqlite.specs.State.{State, IsUnchanged}
 use Rattle.sqlite.specs.Held.{Held, state}
@@ -20,6 +21,7 @@ use Rattle.job_record.specs.declared.fault.RecordFault.TheVariants.{NotARecord, 
 use Rattle.job_record.specs.Counted.{FitsSpace, IsCount}
 use Rattle.job_record.specs.RecordMap.{ListsKeys}
 use Rattle.job_record.specs.Keyed.{held_in}
+use Rattle.job_record.specs.Tables.{record_with, IsApart}
 use Rattle.job_record.specs.Archives.{AreArchives}
 use Rattle.job_record.specs.Map.{KeyMap, HoldsMap, IsInStep, held, IsRecord, IsRecordOf, Stands, KeysIn, ChangesIn, changed_by, forgets}
 use Rattle.record_program.specs.Lines.{has_sum, keys_with}
@@ -81,7 +83,7 @@ option_of None = inr refl
 
 pub record_of : (s : State) (map : KeyMap) → IsRecordOf s map → IsRecord s
 record_of s map it = record {
-  schema = it.holds.schema;
+  schema = record { others = map.beside.schema; is = it.holds.schema; apart = it.holds.apart };
   sound = it.holds.sound;
   keyed = it.holds.keyed;
   kept = it.holds.kept;
@@ -101,14 +103,16 @@ same_of old new map it now is = record {
 pub unchanged_of : (old new : State) (map : KeyMap) → IsRecordOf old map → IsUnchanged old new → IsRecord new → IsRecordOf new map
 unchanged_of old new map it u = same_of old new map it u.0.now_is
 
-stays_of : (old new : State) (map : KeyMap) → IsRecordOf old map → Stands old new → StaysOf map new
+pub stays_of : (old new : State) (map : KeyMap) → IsRecordOf old map → Stands old new → StaysOf map new
 stays_of old new map it stands open_now = let s = stands open_now in same_of old new map it s.0 s.1
 
 -- a record has each map that says the same
-like : (s : State) (map other : KeyMap) → ((key : List ℕ) → map.rows key ≡ other.rows key) → map.archives ≡ other.archives → IsRecordOf s map → IsRecordOf s other
-like s map other rows archives it = record {
+like : (s : State) (map other : KeyMap) → ((key : List ℕ) → map.rows key ≡ other.rows key) → map.archives ≡ other.archives → map.beside ≡ other.beside → IsRecordOf s map → IsRecordOf s other
+like s map other rows archives beside it = record {
   holds = record {
-    schema = it.holds.schema;
+    schema = it.holds.schema ∙ ap (λ (d : Database). record_with d.schema) beside;
+    apart = subst (λ (d : Database). IsApart d.schema) beside it.holds.apart;
+    beside = subst (λ (d : Database). (t : Table) → Has d.schema.tables t → s.now.trees t.tree ≡ d.trees t.tree) beside it.holds.beside;
     sound = it.holds.sound;
     keyed = it.holds.keyed;
     kept = it.holds.kept;
@@ -294,10 +298,15 @@ module _ (sum : List ℕ) (map : KeyMap) (keys : List (List ℕ)) (summed : (key
   archives_left : IsInStep map → (forgotten keys map).archives ≡ (without_sum sum map).archives
   archives_left step = forgotten_archives keys map ∙ both_filters (λ x. not (is_any keys x)) (λ x. not (has_sum sum x.key)) map.archives (archive_left step)
 
+-- what is beside the record stays
+beside_left : (keys : List (List ℕ)) (map : KeyMap) → (forgotten keys map).beside ≡ map.beside
+beside_left [] map = refl
+beside_left (key ∷ keys) map = beside_left keys (changed_by (forgets key) map)
+
 module _ (sum : List ℕ) (map : KeyMap) (mid new : State) where
   pub forgets_rows : (keys : List (List ℕ)) (result : Result (Unit {0}) RecordFault) → HoldsKeys sum map mid (Ok keys) → ForgetsAll sum keys map new result → Forgets sum map new result
   forgets_rows keys (Ok done) h all =
-      (h.0, like new (forgotten keys map) (without_sum sum map) (rows_left sum map keys h.2 h.3) (archives_left sum map keys h.2 h.3 h.1.in_step) all)
+      (h.0, like new (forgotten keys map) (without_sum sum map) (rows_left sum map keys h.2 h.3) (archives_left sum map keys h.2 h.3 h.1.in_step) (beside_left keys map) all)
   forgets_rows keys (Err NotARecord) h all = absurd all
   forgets_rows keys (Err WrongVersion) h all = absurd all
   forgets_rows keys (Err NoRow) h all = absurd all

@@ -1,21 +1,25 @@
 -- The look at a database before it is opened as a record changes neither a record nor a database with no table.
-use Rattle.std.proofs.Common.{◌≡◌, ◌⊎◌, inl, inr, ℕ, List, [], Bool, true, false, true≢false, Option, Result, Ok, Err, IsTrue, refl, sym, ap, subst, ◌∙◌}
+use Rattle.std.proofs.Common.{true≢false, ◌≡◌, ◌⊎◌, inl, inr, ℕ, List, [], Bool, true, false, if◌then◌else◌, Option, None, Result, Ok, Err, IsTrue, refl, sym, ap, subst, ◌∙◌}
 use Rattle.std.specs.Prelude.{IfOk}
 use Rattle.std.proofs.lemmas.Bool.{cases_Bool}
+use Rattle.std.proofs.lemmas.Result.{IfOk-weaker}
 use Rattle.sqlite.specs.Store.{Ghosts}
 use Rattle.sqlite.specs.Order.{Row as Columns}
 use Rattle.sqlite.specs.Schema.{Schema}
 use Rattle.sqlite.specs.Effect.{Database, IsDatabase}
-use Rattle.sqlite.specs.Listing.{understood, listing_schema}
+use Rattle.sqlite.specs.Listing.{understood, reads_listing, if_select, listing_schema}
 use Rattle.sqlite.specs.Clock.{timed}
 use Rattle.sqlite.specs.State.{State, HasCleanDisk, IsUnchanged, ShowsRows, Shown, QueriesRow}
 use Rattle.sqlite.specs.Held.{Held, state}
-use Rattle.sqlite.proofs.Callers.{IsPlain, unchanged_then}
+use Rattle.sqlite.proofs.Callers.{unchanged_then}
+use Rattle.sqlite_resolve.specs.declared.compiled.Compiled.{Compiled}
+use Rattle.sqlite_resolve.specs.Lowering.{Checked, and_then}
+use Rattle.sqlite_resolve.specs.Compile.{first, planned, meaning, returning, compiled, with_command}
 use Rattle.sqlite_tied.specs.Compute.{everything}
 use Rattle.sqlite_trees.specs.Tree.{IsTable}
 use Rattle.sqlite_trees.specs.View.{doubt}
 use Rattle.job_record.specs.declared.fault.RecordFault.TheVariants.{NotARecord, WrongVersion, NoRow, Store, UsesSpent, OutOfMemory}
-use Rattle.job_record.specs.Tables.{no_schema, first_schema, record_schema}
+use Rattle.job_record.specs.Tables.{HasRecord}
 use Rattle.job_record.specs.Keyed.{held_in, IsKeyed}
 use Rattle.job_record.specs.Map.{KeyMap, held, IsRecord, Stands}
 use Rattle.job_record.specs.Opening.{IsReady, Opens}
@@ -28,30 +32,49 @@ use Rattle.record_program.specs.Forgetting.{Shows, ShowsFirst}
 use Rattle.record_program.specs.inner.Looked.{MayOpen, Spares}
 use Rattle.record_program.proofs.LeavesOthers.{record_of, unchanged_of}
 
-record_plain : IsPlain (understood record_schema views_text)
-unfolding understood listing_schema everything
-record_plain = (refl, refl)
+-- ---- the text is a query, which returns no row as a write does, whatever the schema has
 
-blank_plain : IsPlain (understood no_schema views_text)
-unfolding understood listing_schema everything
-blank_plain = (refl, refl)
+views_return_none : IfOk (first views_text) (λ p. (schema : Schema) (base : ℕ) → returning schema base p.statement ≡ Ok None)
+unfolding everything
+views_return_none schema base = refl
 
-first_plain : IsPlain (understood first_schema views_text)
-unfolding understood listing_schema everything
-first_plain = (refl, refl)
+-- what a text compiles to returns what its statement returns
+by_parts : {R C F A : Type 0} (compiled : F × (C × R) → A) (get : A → R) → ((f : F) (c : C) (r : R) → get (compiled (f, (c, r))) ≡ r) → (none : R) (returned : Checked R) → returned ≡ Ok none → (command : Checked C) (formats : F) (a : A)
+    → and_then (and_then (and_then returned (λ r. and_then command (λ c. Ok (c, r)))) (λ found. Ok (formats, found))) (λ plan. Ok (compiled plan)) ≡ Ok a → get a ≡ none
+by_parts compiled get law none (Ok r) is (Ok c) formats a h =
+    let same : r ≡ none = cc in
+    let whole : compiled (formats, (c, r)) ≡ a = cc in
+    ap get (sym whole) ∙ law formats c r ∙ same
+by_parts compiled get law none (Ok r) is (Err e) formats a h = absurd (let e = h in cc)
+by_parts compiled get law none (Err e) is command formats a h = absurd (let e = is in cc)
 
-plain_at : (s : State) → MayOpen s → IsPlain (understood s.now.schema views_text)
-plain_at s (inl blank) = subst (λ (t : Schema). IsPlain (understood t views_text)) (sym blank.schema) blank_plain
-plain_at s (inr (inl first)) = subst (λ (t : Schema). IsPlain (understood t views_text)) (sym first.schema) first_plain
-plain_at s (inr (inr it)) = subst (λ (t : Schema). IsPlain (understood t views_text)) (sym it.schema) record_plain
+by_first : {P A R : Type 0} (get : A → R) (none : R) (parsed : Checked P) (next : P → Checked A) → IfOk parsed (λ p. (a : A) → next p ≡ Ok a → get a ≡ none) → (a : A) → and_then parsed next ≡ Ok a → get a ≡ none
+by_first get none (Ok p) next each a h = each a h
+by_first get none (Err e) next each a h = absurd (let e = h in cc)
+
+compiled_none : (schema : Schema) (c : Compiled) → compiled schema views_text ≡ Ok c → c.returning ≡ None
+unfolding compiled planned meaning
+compiled_none schema c is =
+    by_first (λ (c : Compiled). c.returning) None (first views_text) _
+    (IfOk-weaker (first views_text) _ _ (λ p none c h. by_parts (with_command p) (λ (c : Compiled). c.returning) (λ f k r. refl) None _ (none schema _) _ _ c h) views_return_none) c is
+
+listing_none : IfOk (if_select (compiled listing_schema views_text)) (λ c. c.returning ≡ None)
+unfolding listing_schema everything
+listing_none = refl
+
+views_none : (schema : Schema) (c : Compiled) → understood schema views_text ≡ Ok c → c.returning ≡ None
+unfolding understood
+views_none schema c is = either (reads_listing schema views_text) is
+  where
+    either : (listed : Bool) → (if listed then if_select (compiled listing_schema views_text) else compiled schema views_text) ≡ Ok c → c.returning ≡ None
+    either true is = subst (λ r. IfOk r (λ c. c.returning ≡ None)) is listing_none
+    either false is = compiled_none schema c is
 
 -- such a query changes nothing
-module _ (old new : State) (plain : IsPlain (understood old.now.schema views_text)) where
+module _ (old new : State) where
   shown_same : (rows : List Columns) → Shown views_text [] old new rows → IsUnchanged old new
   unfolding Shown
-  shown_same rows h =
-      let none = (subst IsPlain h.1.is plain).0 in
-      (subst (ShowsRows old new views_text h.0 (timed [] h.0.formats h.1.now) rows) none h.2).3
+  shown_same rows h = (subst (ShowsRows old new views_text h.0 (timed [] h.0.formats h.1.now) rows) (views_none old.now.schema h.0 h.1.is) h.2).3
 
   row_same : (row : Columns) → QueriesRow views_text [] old new (Ok row) → IsUnchanged old new
   unfolding QueriesRow
@@ -60,11 +83,11 @@ module _ (old new : State) (plain : IsPlain (understood old.now.schema views_tex
 
 module _ (old new : State) where
   pub looked : (c : Columns) → QueriesRow views_text [] old new (Ok c) → MayOpen old → IsUnchanged old new
-  looked c asked fits = row_same old new (plain_at old fits) c asked
+  looked c asked fits = row_same old new c asked
 
   pub still_record : IsUnchanged old new → IsRecord old → IsRecord new
   still_record u it = record {
-    schema = ap (λ (d : Database). d.schema) u.0.now_is ∙ it.schema;
+    schema = subst (λ (d : Database). HasRecord d.schema) (sym u.0.now_is) it.schema;
     sound = subst IsDatabase (sym u.0.now_is) it.sound;
     keyed = subst (λ (d : Database). IsKeyed (d.trees 2)) (sym u.0.now_is) it.keyed;
     kept = subst (λ (d : Database). IsKeyed (d.trees 4)) (sym u.0.now_is) it.kept;
@@ -100,6 +123,7 @@ module _ (old new : State) where
   was_migrated u map it = record {
     rows = λ key. it.rows key ∙ ap (λ (f : List ℕ → Option Columns). f key) (same_held u);
     archives = subst (λ (f : List ℕ → Option Columns). AreArchivesOf f map.archives) (same_held u) it.archives;
+    beside = it.beside;
   }
 
 module _ (budget : Option ℕ) (old mid new : State) (spares : MayOpen old → IsUnchanged old mid) where

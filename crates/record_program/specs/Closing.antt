@@ -1,5 +1,5 @@
--- What a close, and `--forget`, leave of the two files of a record.
-use Rattle.std.specs.Prelude.{◌≡◌, List, ℕ, Option, Some, None, Result, Ok, Err}
+-- What a close, `--forget` and `--budget` leave of the two files of a record.
+use Rattle.std.specs.Prelude.{◌≡◌, List, [], ℕ, Option, Some, None, Result, Ok, Err}
 use Rattle.sqlite_disk.specs.declared.Disk.{Ghosts}
 use Rattle.sqlite_disk.specs.declared.Files.{Files}
 use Rattle.sqlite_wal.specs.Reads.{AreClean}
@@ -14,6 +14,7 @@ use Rattle.job_record.specs.Map.{KeyMap, IsRecordOf}
 use Rattle.record_program.specs.declared.ending.Ending.{Ending}
 use Rattle.record_program.specs.Endings.{status_of}
 use Rattle.record_program.specs.Forgetting.{ForgetsFirst}
+use Rattle.record_program.specs.Trimming.{TrimsFirst}
 
 module _ {D : Type 0} (g : Ghosts D) where
   -- The files are given back only where the database file alone holds what the command left of the record. Else the command has failed.
@@ -22,6 +23,13 @@ module _ {D : Type 0} (g : Ghosts D) where
       AreClean g files.log files.db → HasCleanDisk (file_state old) × ((map : KeyMap) → FitsSpace space map → IsRecordOf (file_state old) map
       → (last : Held (FileStore D g)) × ForgetsFirst over_files map last sum ending × IsCopied last files)
   ForgetsForGood sum space old ending None = status_of ending ≡ 3
+
+  -- the same of `--budget`, which knows the keys of the archives that went only where both files were closed
+  abbrev pub TrimsForGood : (budget : ℕ) → Space → Held (FileStore D g) → Ending → (lost : List (List ℕ)) → Option (Files D) → Type 0
+  TrimsForGood budget space old ending lost (Some files) =
+      AreClean g files.log files.db → HasCleanDisk (file_state old) × ((map : KeyMap) → FitsSpace space map → IsRecordOf (file_state old) map
+      → (last : Held (FileStore D g)) × TrimsFirst over_files map last budget ending lost × IsCopied last files)
+  TrimsForGood budget space old ending lost None = (status_of ending ≡ 3) × (lost ≡ [])
 
   -- a close that fails is told in place of rows
   abbrev pub ClosesAs : Held (FileStore D g) → (before after : Ending) → Option (Files D) → Type 0

@@ -3,6 +3,7 @@ pub mod Views
 pub mod Lines
 pub mod Endings
 pub mod Forgetting
+pub mod Trimming
 pub mod Closing
 pub mod Opened
 pub mod inner

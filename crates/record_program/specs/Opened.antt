@@ -1,5 +1,5 @@
 -- The record that was opened of a file, and how `record` ends on it.
-use Rattle.std.specs.Prelude.{ℕ, List, Option, Some, None}
+use Rattle.std.specs.Prelude.{◌≡◌, ℕ, List, [], Option, Some, None}
 use Rattle.sqlite_disk.specs.declared.Disk.{Ghosts}
 use Rattle.sqlite_disk.specs.declared.Files.{Files}
 use Rattle.sqlite_store.specs.declared.store.FileStore.{FileStore}
@@ -11,7 +11,7 @@ use Rattle.job_record.specs.Rows.{OpensWithRows}
 use Rattle.record_program.specs.declared.ending.Ending.{Ending}
 use Rattle.record_program.specs.Endings.{ShowsNone}
 use Rattle.record_program.specs.Forgetting.{ShowsIn}
-use Rattle.record_program.specs.Closing.{ForgetsForGood}
+use Rattle.record_program.specs.Closing.{ForgetsForGood, TrimsForGood}
 
 module _ {D : Type 0} (g : Ghosts D) where
   -- this record was opened of a database, with this budget: it has no row where that had no table, and the rows of a record
@@ -47,3 +47,9 @@ module _ {D : Type 0} (g : Ghosts D) where
     pub data EndsOn (forget : Option (List ℕ)) (ending : Ending) : Type 0 where
       unshown : ShowsNone ending → EndsOn forget ending
       shown : (found : Held (FileStore D g)) → Opened (file_state found) → EndsWith found forget ending → EndsOn forget ending
+
+    -- no row is shown, and no key is known to be without its archive; or the record of the file was trimmed
+    pub data TrimsOn (budget : ℕ) (ending : Ending) (lost : List (List ℕ)) : Type 0 where
+      untrimmed : ShowsNone ending → lost ≡ [] → TrimsOn budget ending lost
+      trims : (kept : Held (FileStore D g)) (files : Option (Files D)) → IsRecordOf None kept →
+          TrimsForGood g budget (record { budget = None; counted = None }) kept ending lost files → TrimsOn budget ending lost

@@ -3,18 +3,20 @@ ghost use Rattle.std.specs.Prelude.{◌≡◌, ℕ, false, List, [], Option, Non
 ghost use Rattle.sqlite.specs.Files.{file_state};
 ghost use Rattle.record_program.specs.Closing.{ForgetsForGood, Leaves};
 ghost use Rattle.record_program.specs.Endings.{IsEnding, ShowsNone, Says};
-ghost use Rattle.record_program.specs.Opened.{IsOf, IsRecordOf, IsShown, IsForgotten, EndsWith, EndsOn};
+ghost use Rattle.record_program.specs.Opened.{IsOf, IsRecordOf, IsShown, IsForgotten, EndsWith, EndsOn, TrimsOn};
 ghost use Rattle.record_program.specs.declared.ending.Ending.{Ending};
 
 use crate::closing::{forgotten_for_good, left_of};
 use crate::databases::Databases;
 use crate::ending::Ending;
+use crate::held::trimmed_on;
 use crate::kept::{FileLeft, FileRecord};
 use crate::look::{Look, looked, looked_if_there, remove_log};
 use crate::store::shown_in;
 use crate::tables::as_record;
 use job_record::{JobRecord, RecordFault};
 use job_rows::Record;
+use plain_data::{Items, Text};
 use sqlite::{Connection, File, FileStore};
 use sqlite_disk::Disk;
 use std::alloc::Global;
@@ -39,6 +41,10 @@ pub trait Records {
     /// `record` may end so on the file of this name, where the rows whose key has this SHA-1 are forgotten first.
     ghost ends: { Self → List ℕ → Option (List ℕ) → Ending → Type 0 };
 
+    /// `record` may end so on the file of this name, where archives go until the others have so many bytes, and these are the keys of those
+    /// that went for good.
+    ghost trims: { Self → List ℕ → ℕ → Ending → List (List ℕ) → Type 0 };
+
     /// A record of which this is left holds what it held, in its file or in its file and its log.
     ghost leaves: { Self.Kept → Self.Left → Type 0 };
 
@@ -47,6 +53,12 @@ pub trait Records {
     fn record_ending(&self, file: &str, forget: Option<&str>) -> Ending
         ensures ending { IsEnding result }
         ensures whose { ends self.now file.now (option_map (λ sum. sum.now) forget.entry) result };
+
+    /// Lets archives of a file's record go, those of the oldest last use first, until the others have at most so many bytes together. All
+    /// rows stay. Returns how that and the rows end the command, and the keys of those that went for good.
+    fn trim_record(&self, file: &str, budget: u64) -> (Ending, Items<Text>)
+        ensures ending { IsEnding result.0 }
+        ensures whose { trims self.now file.now budget result.0 result.1 };
 
     /// Opens the record of a file. The archives may have together at most as many bytes as the budget, if there is one. Makes a record
     /// where nothing is there, and in a database that has none of its tables, and one of version 2 of one of version 1. What is
@@ -70,10 +82,16 @@ impl Records for HostRuntime {
 
     ghost ends = { λ rt file forget ending. EndsOn ⟦<File as Disk>⟧ (⟦<HostRuntime as Databases>⟧.opens rt file) forget ending };
 
+    ghost trims = { λ rt file budget ending lost. TrimsOn ⟦<File as Disk>⟧ (⟦<HostRuntime as Databases>⟧.opens rt file) budget ending lost };
+
     ghost leaves = { λ kept left. Leaves ⟦<File as Disk>⟧ kept.rows.conn left.left };
 
     fn record_ending(&self, file: &str, forget: Option<&str>) -> Ending {
         ending_of(self, file, forget)
+    }
+
+    fn trim_record(&self, file: &str, budget: u64) -> (Ending, Items<Text>) {
+        trimmed_on(self, file, budget)
     }
 
     fn open_record(&self, file: &str, budget: Option<u64>) -> Result<FileRecord, RecordFault> {
@@ -144,8 +162,8 @@ fn opened_at<R: AllocGlobal + Folder + Databases>(
     }
 }
 
-// Where this is refused, the log that it made is removed again.
-fn database_of<R: AllocGlobal + Folder + Databases>(
+/// Where this is refused, the log that it made is removed again.
+pub fn database_of<R: AllocGlobal + Folder + Databases>(
     rt: &R,
     file: &str,
     new_log: Option<&str>,
@@ -164,8 +182,8 @@ fn database_of<R: AllocGlobal + Folder + Databases>(
     }
 }
 
-// What is refused is let go and not closed: closing would write its log into it.
-fn opened_in<F: AllocGlobal + Folder, D: Disk + Drop>(
+/// What is refused is let go and not closed: closing would write its log into it.
+pub fn opened_in<F: AllocGlobal + Folder, D: Disk + Drop>(
     rt: &F,
     conn: Connection<FileStore<D>>,
     new_log: Option<&str>,
@@ -205,7 +223,8 @@ fn ending_of<R: AllocGlobal + Folder + Databases>(
     }
 }
 
-fn unseen(error: &io::Error) -> Ending
+/// Why a file can't be looked at.
+pub fn unseen(error: &io::Error) -> Ending
     ensures { ShowsNone result }
 {
     match error.kind() {
