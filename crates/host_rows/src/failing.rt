@@ -38,6 +38,7 @@ impl<R: World> Model for Failing<R> {
       log = told fields.lost fields.inner.log;
       running = fields.inner.running;
       guarded = fields.inner.guarded;
+      launcher = fields.inner.launcher;
     } };
 
     ghost invariant = { λ fields. IsWithin fields.lost fields.inner.log };
