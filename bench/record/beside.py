@@ -25,8 +25,8 @@ COLUMNS = "key, outputs, files, cost, archived"
 FIND = f"SELECT {COLUMNS} FROM job WHERE key = ?1"
 VERSION = "SELECT value FROM meta WHERE name = 'version'"
 PUT = (
-    f"INSERT INTO job ({COLUMNS}) VALUES (?1, ?2, ?3, ?4, ?5) ON CONFLICT (key) DO UPDATE SET outputs = excluded.outputs,"
-    " files = excluded.files, cost = excluded.cost, archived = excluded.archived"
+    f"INSERT INTO job ({COLUMNS}) VALUES (?1, ?2, ?3, ?4, ?5) ON CONFLICT (key) DO UPDATE SET outputs = ?2,"
+    " files = ?3, cost = ?4, archived = ?5"
 )
 
 
