@@ -216,7 +216,7 @@ module _ (row : Row) (old new : State) (space : Space) (putting : Putting) (is :
       keys_safe (Err UsesSpent) h = h
       keys_safe (Err OutOfMemory) h = h
 
--- ---- nothing was done, for want of memory
+-- ---- nothing was done, for out of memory
 
 pub idle_stands : (s : State) (map : KeyMap) → IsRecordOf s map → Stands s s
 idle_stands s map it open_now = (refl, record_of s map it)

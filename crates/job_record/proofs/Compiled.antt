@@ -1,4 +1,4 @@
--- What the statements of the record compile to, where the store holds its tables.
+-- What the statements of the record compile to, if the store holds its tables.
 use Rattle.std.proofs.Common.{◌≡◌, ℕ, pos, negsuc, List, [], ◌∷◌, codes, true, false, Some, None, Ok, Err, refl}
 use Rattle.sqlite.specs.Collation.TheVariants.{Binary}
 use Rattle.sqlite_value.specs.declared.keys.Key.{Key}

@@ -1,4 +1,4 @@
--- What a record left is that record again, where it is opened.
+-- What a record left is that record again, if it is opened.
 use Rattle.std.proofs.Common.{◌≡◌, sym}
 use Rattle.sqlite.specs.State.{State}
 use Rattle.sqlite_catalog.proofs.ReadLemmas.{lists_once}

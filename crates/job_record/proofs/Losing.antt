@@ -53,7 +53,7 @@ total_rest zero xs = omega arith
 total_rest (suc n) [] = omega arith
 total_rest (suc n) (x ∷ xs) = let rest : total_bytes (drop n xs) ≤ total_bytes xs = total_rest n xs in omega arith
 
--- so many as leave the rest within the budget, where one fewer does not
+-- so many as leave the rest within the budget, if one fewer does not
 pub count_is : (b : ℕ) (xs : List Archive) (n : ℕ) → n ≤ length xs → total_bytes (drop n xs) ≤ b → ((m : ℕ) → n ≡ suc m → b < total_bytes (drop m xs)) → lost_count (Some b) xs ≡ n
 count_is b [] zero short within past = refl
 count_is b [] (suc n) short within past = absurd (omega arith)
@@ -64,7 +64,7 @@ count_is b (x ∷ xs) (suc n) short within past =
     let over : nat_le (total_bytes (x ∷ xs)) b ≡ false = not_within (total_bytes (x ∷ xs)) b (omega arith) in
     rw over (ap suc (count_is b xs n (omega arith) within (λ m is. subst (λ k. b < total_bytes (drop k (x ∷ xs))) is more)))
 
--- an archive that is within the budget stays where it comes last
+-- an archive that is within the budget stays if it comes last
 last_stays : (b : ℕ) (key : List ℕ) (own : Archive) (xs : List Archive) → is_of key own ≡ true → own.bytes ≤ b
     → has_archive key (drop (lost_count (Some b) (xs ++ own ∷ [])) (xs ++ own ∷ [])) ≡ true
 last_stays b key own [] is within =
@@ -190,7 +190,7 @@ module _ (budget : Option ℕ) (row : Row) (map : KeyMap) (within : map.budget �
       either true there = absurd (true≢false (sym stays ∙ gone_apart row.key (lost_count map.budget xs) xs xs_apart there))
   own_left false keeps xs is xs_apart = has_start row.key (lost_count map.budget xs) xs (ap (has_archive row.key) (is ∙ append-nil (without_archive row.key map.archives)) ∙ without_own row.key map.archives)
 
-  -- the row's key has an archive where the row keeps one
+  -- the row's key has an archive if the row keeps one
   pub own_kept : has_archive row.key (left_for row map.budget map.archives) ≡ keeps_archive row map.budget
   own_kept = either (keeps_archive row map.budget) refl
     where

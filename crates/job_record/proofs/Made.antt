@@ -31,7 +31,7 @@ use Rattle.job_record.proofs.Putting.{cast_null}
 use Rattle.job_record.proofs.Shown.{AreShown}
 use Rattle.job_record.proofs.Writing.{IsIdle, went, same_value, updated}
 
--- ---- CREATE TABLE, where no table counts its rowids
+-- ---- CREATE TABLE, if no table counts its rowids
 
 pub record Created (old new : State) (schema : Schema) (table : Table) : Type 0 where
   pub schema_is : new.now.schema ≡ created schema table

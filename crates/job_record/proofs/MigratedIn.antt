@@ -1,4 +1,4 @@
--- A migration inside its transaction: what it ran, and where it was refused.
+-- A migration inside its transaction: what it ran, and at which step it was refused.
 use Rattle.std.proofs.Common.{◌⊎◌, inl, inr, ℕ, ◌≤◌, List, [], length, Ok, Err, refl, sym, ◌∙◌, true≢false}
 use Rattle.sqlite.specs.Store.{Ghosts}
 use Rattle.sqlite.specs.Order.{Row as Columns}

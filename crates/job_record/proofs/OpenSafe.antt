@@ -33,7 +33,7 @@ module _ (sql : List ℕ) (params : Columns) (old new : State) where
 reads_open : (old new : State) (n : _) → ReadsVersion old new (Ok n) → IsTrue new.is_open
 reads_open old new n h = row_open version_text [] old new h.0 h.1
 
--- a record keeps its map where nothing is changed
+-- a record keeps its map if nothing is changed
 taken_of : (old new : State) (map : KeyMap) (budget : Option ℕ) → OpensAs budget old new → IsRecordOf old map → IsRecordOf new map
 taken_of old new map budget opens it = let t = opens.taken (record_of old map it) in same_of old new map it t.0.0.now_is (t.1.settled ∙ t.0.0.now_is) t.1.autocommit
 

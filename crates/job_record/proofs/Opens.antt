@@ -77,7 +77,7 @@ version_reads old new c (Err fault.OutOfMemory) q h = absurd h
 
 -- ---- the looks
 
--- a look that is refused: R1 where the table lacks a column, or R4
+-- a look that is refused: R1 if the table lacks a column, or R4
 abbrev pub Lacks : {S : Type 0} → Ghosts S → Held S → Held S → List ℕ → RecordFault → Type 0
 Lacks g from to query f =
     ((f ≡ fault.NotARecord) × LacksColumn (state g from).now.schema query × IsUnchanged (state g from) (state g to)) ⊎ ((e : Error) × (f ≡ fault.Store e) × CannotRead g query from to e)

@@ -79,7 +79,7 @@ ints_equal : (m n : ℤ) → is_true (binary (Compare Eq Binary) (Int m) (Int n)
 unfolding binary
 ints_equal m n = truth_of (is_eq (value_cmp (Int m) (Int n)))
 
--- two rows conflict where they have one key
+-- two rows conflict if they have one key
 conflict_is : (others : Schema) → IsApart others → (new r : Row) → conflicts (Some (1 ∷ [])) (record_with others).indexes (job_at 2) new r ≡ is_true (binary (Compare Eq Binary) (column r 1) (column new 1))
 conflict_is others apart new r = rw (none_shares others apart new r, first_key-plain) (or_false _ ∙ and_true _)
 

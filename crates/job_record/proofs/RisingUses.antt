@@ -78,7 +78,7 @@ module _ (number : Row → ℕ) (n : ℕ) where
       either true is = absurd (none r (inl refl) (eqb-true (number r) n is))
       either false is = refl
 
-  -- where a number tells the row, a table has at most one with it
+  -- if a number tells the row, a table has at most one with it
   pub at_most_one : (rows : List Row) → IsTable rows → ((a b : Row) → Has rows a → Has rows b → number a ≡ n → number b ≡ n → a ≡ b) → sum_by (counts number n) rows ≤ 1
   at_most_one [] up tells = omega arith
   at_most_one (r ∷ rows) up tells = subst (λ m. m ≤ 1) (sym (sum_by-cons (counts number n) r rows)) (either (number r == n) refl (at_most_one rows up.1 (λ a b p q. tells a b (inr p) (inr q))))
@@ -114,7 +114,7 @@ module _ (read : Output → Archive) where
   first_up o p os by next sorted =
       not_less (read p).used (read o).used (sym (less_by p o (read p).used (read o).used next by) ∙ sorted 0 o (omega arith) (omega arith))
 
-  -- outputs that are sorted by their use rise, where none comes twice
+  -- outputs that are sorted by their use rise, if none comes twice
   pub sorted_rise : (last : ℕ) (os : List Output) → ((o : Output) → Has os o → IsByUse o) → IsSorted (output_cmp archives_query) os → ((n : ℕ) → sum_by (uses n) os ≤ 1) → IsFirstAfter last os
       → AreRising last (map read os)
   sorted_rise last [] by sorted once first = tt

@@ -199,7 +199,7 @@ module _ (key : List ℕ) (first : KeyMap → KeyMap) (c : Change) (whole : (map
 
 -- ---- a row that is set
 
--- the number of its own use, where it needs one
+-- the number of its own use, if it needs one
 abbrev pub TellsFor : Putting → Answer ℕ
 TellsFor row map used next = (next ≡ map) × (IsTrue row.stored.archived → IsNext map used)
 

@@ -66,7 +66,7 @@ module _ {S : Type 0} (g : Ghosts S) (texts : List (List ℕ)) where
       ⊎ (((e ≢ QueryReturnedNoRows) × QueriesRow text params (state g at) (state g to) (Err e))
       ⊎ FailsToQuery text params (state g at) (state g to) e))))
 
-  -- one shows a column that is no number or no text, or no oldest archive, where one has to go
+  -- one shows a column that is no number or no text, or no oldest archive, though one has to go
   abbrev pub Misshows : Held S → Type 0
   Misshows at =
       (to : Held S) × (text : List ℕ) × Has texts text × (params : Columns)

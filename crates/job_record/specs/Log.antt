@@ -17,7 +17,7 @@ code_of (Store cause) = codes "R4"
 code_of UsesSpent = codes "R5"
 code_of OutOfMemory = codes "OutOfMemory"
 
--- what the log says of a command: done, its refusal, or nothing where memory ran out
+-- what the log says of a command: done, its refusal, or nothing if memory ran out
 abbrev pub told_of : {T : Type 0} → Result T RecordFault → Option (Result (Unit {0}) RecordRefusal)
 told_of (Ok value) = Some (Ok tt)
 told_of (Err NotARecord) = Some (Err refusal.NotARecord)
@@ -27,6 +27,6 @@ told_of (Err (Store cause)) = Some (Err refusal.Store)
 told_of (Err UsesSpent) = Some (Err refusal.UsesSpent)
 told_of (Err OutOfMemory) = None
 
--- one entry, of the command, its key, and whether it was done or refused; none where memory ran out
+-- one entry, of the command, its key, and whether it was done or refused; none if memory ran out
 abbrev pub Logs : {T : Type 0} → Command → List ℕ → Result T RecordFault → List Entry → List Entry → Type 0
 Logs command key result old new = new ≡ old ++ entries_of command key (told_of result)

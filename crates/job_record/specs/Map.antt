@@ -64,7 +64,7 @@ pub record HoldsMap (db : Database) (map : KeyMap) : Type 0 where
   pub rows : (key : List ℕ) → held_in (db.trees 2) key ≡ map.rows key
   pub archives : AreArchives (db.trees 4) map.archives
 
--- the flag of a row is 1 where its key has an archive, and each archive is that of a row
+-- the flag of a row is 1 if its key has an archive, and each archive is that of a row
 pub record IsInStep (map : KeyMap) : Type 0 where
   pub flags : (key : List ℕ) (c : Columns) → map.rows key ≡ Some c → column c 4 ≡ Int (pos (if has_archive key map.archives then 1 else 0))
   pub owned : (key : List ℕ) → IsTrue (has_archive key map.archives) → IsSome (map.rows key)
@@ -82,7 +82,7 @@ pub record IsRecordOf (s : State) (map : KeyMap) : Type 0 where
 abbrev pub unarchived : Columns → Columns
 unarchived columns = take 4 columns ++ Int (pos 0) ∷ []
 
--- the row is archived where its archive alone is within the budget
+-- the row is archived if its archive alone is within the budget
 abbrev pub kept_as : Option ℕ → Row → Row
 kept_as budget row = record row { archived = keeps_archive row budget }
 
@@ -145,7 +145,7 @@ TouchesIn map old new key (Err (Store e)) = Stands old new
 TouchesIn map old new key (Err UsesSpent) = IsTrue (has_archive key map.archives) × AreSpent map.archives × Stands old new
 TouchesIn map old new key (Err OutOfMemory) = Stands old new
 
--- `drop_archive` and `forget` make their change where the key has a row, and R3 says that there is none
+-- `drop_archive` and `forget` make their change if the key has a row, and R3 says that there is none
 abbrev pub ChangesIn : Change → List ℕ → KeyMap → State → State → Result (Unit {0}) RecordFault → Type 0
 ChangesIn change key map old new (Ok done) = IsSome (map.rows key) × IsRecordOf new (changed_by change map)
 ChangesIn change key map old new (Err NotARecord) = ⊥

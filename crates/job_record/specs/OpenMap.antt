@@ -1,4 +1,4 @@
--- The map of a store that is opened as a record, also where that is refused, and after a crash.
+-- The map of a store that is opened as a record, also if that is refused, and after a crash.
 use Rattle.std.specs.Prelude.{◌≡◌, ℕ, ◌+◌, ◌<◌, pos, min, sum_by, false, List, codes, find, get_or, length, Option, Some, None, IsTrue}
 use Rattle.std.specs.declared.cmp.Ordering.{Ordering}
 use Rattle.std.specs.Ordering.{nat_cmp}
@@ -75,7 +75,7 @@ pub record SaysVersion (db : Database) (n : ℕ) : Type 0 where
 -- ---- opening
 
 -- A store with no table becomes an empty record, one of version 1 has its rows with their archives, and a record stays as it is. What is made
--- says that it is of version 2; so does what was of version 1, where each row of `meta` has a rowid of its own.
+-- says that it is of version 2; so does what was of version 1, if each row of `meta` has a rowid of its own.
 pub record OpensAs (budget : Option ℕ) (old new : State) : Type 0 where
   pub made : IsBlank old → IsRecordOf new (no_columns budget)
   pub migrated : IsFirst old → (map : KeyMap) × (map.budget ≡ budget) × IsMigrated old map × IsRecordOf new map

@@ -174,7 +174,7 @@ module _ {S : Type 0} (g : Ghosts S) where
     pub shows : Shown archived_text [] (state g made) (state g read) all
     pub unread : Any HasNoBytes all
 
-  -- R1 for such a row, R4 for its cause, or want of memory
+  -- R1 for such a row, R4 for its cause, or out of memory
   abbrev pub CannotMigrate : Held S → RecordFault → Type 0
   CannotMigrate first NotARecord = HasUnread first
   CannotMigrate first WrongVersion = ⊥
@@ -204,7 +204,7 @@ module _ {S : Type 0} (g : Ghosts S) where
   abbrev pub IsBare : Held S → Held S → Type 0
   IsBare old at = HasTables (state g old).now.schema false false false × IsUnchanged (state g old) (state g at)
 
-  -- why it is not ready: R1 for other tables, or what the version is refused for; R4 where the store refuses
+  -- why it is not ready: R1 for other tables, or what the version is refused for; R4 if the store refuses
   abbrev pub IsUnready : Held S → Held S → RecordFault → Type 0
   IsUnready old new fault =
       ((fault ≡ NotARecord) × IsHalf (state g old).now.schema × IsUnchanged (state g old) (state g new))
@@ -218,7 +218,7 @@ module _ {S : Type 0} (g : Ghosts S) where
       ((at : Held S) × IsBare old at × GoesBack (state g at) (state g new) × (e : Error) × (fault ≡ Store e) × FailsToMake at new e)
       ⊎ ((at : Held S) × IsReady old at (pos 1) false × GoesBack (state g at) (state g new) × CannotMigrate (begun at) fault)
 
-  -- R1, R2 or R4; it is made where there is no table, and migrated where it is of version 1. Beside the files of a migration no row is read.
+  -- R1, R2 or R4; it is made if there is no table, and migrated if it is of version 1. Beside the files of a migration no row is read.
   abbrev pub Opens : Held S → Held S → Result (Unit {0}) RecordFault → Type 0
   Opens old new (Ok done) =
       IsReady old new (pos 2) true ⊎ (((at : Held S) × IsBare old at × Makes at new) ⊎ ((at : Held S) × IsReady old at (pos 1) false × Migrates at new))

@@ -19,7 +19,7 @@ use Rattle.job_record.specs.Archives.{archives_text, IsNoArchive, AreArchivesIn}
 abbrev pub LacksMemory : Error → Type 0
 LacksMemory e = e ≡ SqliteFailure code.OutOfMemory
 
--- only where the connection is open is a command done, or told that there is no such row, that it does not read, that it is of another version, or that no number is left
+-- only if the connection is open is a command done, or told that there is no such row, that it does not read, that it is of another version, or that no number is left
 abbrev pub AnswersOpen : {T : Type 0} → State → Result T RecordFault → Type 0
 AnswersOpen old (Ok value) = IsTrue old.is_open
 AnswersOpen old (Err NotARecord) = IsTrue old.is_open

@@ -74,7 +74,7 @@ no_schema = record { tables = []; indexes = []; views = [] }
 abbrev pub first_schema : Schema
 first_schema = record { tables = meta_at 0 ∷ job_at 2 ∷ []; indexes = automatic (meta_at 0) 0 (1 ∷ []) 1 ∷ automatic (job_at 2) 0 (1 ∷ []) 3 ∷ []; views = [] }
 
--- And of version 2, where others have been added after them: `archive` is tree 4, its index by key 5, and that by use 6.
+-- And of version 2, if others have been added after them: `archive` is tree 4, its index by key 5, and that by use 6.
 abbrev pub record_with : Schema → Schema
 record_with others = record {
   tables = meta_at 0 ∷ job_at 2 ∷ archive_at 4 ∷ others.tables;
@@ -97,7 +97,7 @@ RefersElsewhere reference = (same_name (codes "job") reference.parent ≡ false)
 pub record IsApart (others : Schema) : Type 0 where
   -- a write to a table of the record is no write to another
   pub trees : (t : Table) → Has others.tables t → (t.tree ≢ 2) × (t.tree ≢ 4)
-  -- where a row of the record changes or goes, no other table is changed for it
+  -- if a row of the record changes or goes, no other table is changed for it
   pub references : (t : Table) (reference : Reference) → Has others.tables t → Has t.references reference → IsPassive reference ⊎ RefersElsewhere reference
   -- the rows with the key of a new row are found by one index alone, that of the record
   pub indexes : (i : Index) → Has others.indexes i → i.is_unique ≡ true → i.table ≡ 2 → i.columns ≢ 1 ∷ []

@@ -116,7 +116,7 @@ fn set_own<S: Alter>(
     Ok(had)
 }
 
-// The number of the row's own use, where it needs one. R5 where none is left.
+// The number of the row's own use, if it needs one. R5 if none is left.
 fn next_for<S: Alter>(change: &mut Transaction<'_, S>, row: &Putting) -> Result<u64, RecordFault>
     ensures same_reference { change.new.conn.ghost_name ≡ change.old.conn.ghost_name }
     ensures step { WalksOn (state S.Store change.old.conn.now) (state S.Store change.new.conn.now)
@@ -132,7 +132,7 @@ fn next_for<S: Alter>(change: &mut Transaction<'_, S>, row: &Putting) -> Result<
     next_used(change)
 }
 
-// The number of the next use. R5 where none is left.
+// The number of the next use. R5 if none is left.
 fn next_used<S: Alter>(change: &mut Transaction<'_, S>) -> Result<u64, RecordFault>
     ensures same_reference { change.new.conn.ghost_name ≡ change.old.conn.ghost_name }
     ensures step { Walks (Unit {0}) (state S.Store change.old.conn.now)
@@ -150,7 +150,7 @@ fn next_used<S: Alter>(change: &mut Transaction<'_, S>) -> Result<u64, RecordFau
     Ok(greatest + 1)
 }
 
-// Lets the archives go that have to, and answers their keys, with the bytes of those that are left, where there is a budget.
+// Lets the archives go that have to, and answers their keys, with the bytes of those that are left, if there is a budget.
 fn lose_for<S: Alter>(
     alloc: Global,
     change: &mut Transaction<'_, S>,
@@ -213,7 +213,7 @@ fn lose<S: Alter>(
     Ok(left)
 }
 
-// The archive whose use is the oldest goes. R1 where there is none, though so many bytes were counted.
+// The archive whose use is the oldest goes. R1 if there is none, though so many bytes were counted.
 fn lose_oldest<S: Alter>(change: &mut Transaction<'_, S>) -> Result<(Text, u64), RecordFault>
     ensures same_reference { change.new.conn.ghost_name ≡ change.old.conn.ghost_name }
     ensures step { Walks (Unit {0}) (state S.Store change.old.conn.now)
@@ -231,7 +231,7 @@ fn lose_oldest<S: Alter>(change: &mut Transaction<'_, S>) -> Result<(Text, u64),
     Ok((key, bytes))
 }
 
-/// Notes that the archive of a key was used. R3 where it has none, R5 where no number is left.
+/// Notes that the archive of a key was used. R3 if it has none, R5 if no number is left.
 pub fn touch<S: Alter>(conn: &mut Connection<S>, key: &str) -> Result<(), RecordFault>
     requires { conn.old.in_transaction ≡ false }
     ensures whole { HasCleanDisk (state S.Store conn.new)
@@ -265,7 +265,7 @@ fn touch_in<S: Alter>(change: &mut Transaction<'_, S>, key: &str) -> Result<(), 
     archives::renumber(change, key, used)
 }
 
-/// Notes that the archive of a key is gone, and answers its bytes, if it had one. R3 where no row has the key.
+/// Notes that the archive of a key is gone, and answers its bytes, if it had one. R3 if no row has the key.
 pub fn drop_archive<S: Alter>(
     conn: &mut Connection<S>,
     key: &str,
@@ -304,7 +304,7 @@ fn drop_in<S: Alter>(change: &mut Transaction<'_, S>, key: &str) -> Result<Optio
     Ok(had)
 }
 
-/// Takes the row of a key out with its archive, and answers the bytes of that, if it had one. R3 where no row has the key.
+/// Takes the row of a key out with its archive, and answers the bytes of that, if it had one. R3 if no row has the key.
 pub fn forget<S: Alter>(conn: &mut Connection<S>, key: &str) -> Result<Option<u64>, RecordFault>
     requires { conn.old.in_transaction ≡ false }
     ensures whole { HasCleanDisk (state S.Store conn.new)
@@ -343,7 +343,7 @@ fn forget_in<S: Alter>(
     Ok(had)
 }
 
-/// Commits what was done, or takes it back where it was refused.
+/// Commits what was done, or takes it back if it was refused.
 pub fn ended<S: Alter, T: Drop>(
     change: Transaction<'_, S>,
     answer: Result<T, RecordFault>,

@@ -35,7 +35,7 @@ pub fn room(alloc: Global, log: &mut Vec<Entry>, key: &str) -> Result<Text, Allo
     Text::from_text(alloc, key)
 }
 
-/// Notes in the log what a command was answered, where there is something to tell.
+/// Notes in the log what a command was answered, if there is something to tell.
 pub fn note(
     log: &mut Vec<Entry>,
     command: Command,
@@ -80,7 +80,7 @@ pub fn look_up<S: Alter>(
     }
 }
 
-/// The row as it is put: its texts say that it is archived where its archive alone is within the budget.
+/// The row as it is put: its texts say that it is archived if its archive alone is within the budget.
 pub fn putting_of(alloc: Global, row: &Row, budget: Option<u64>) -> Result<Putting, AllocError>
     ensures is { IfOk result (λ putting. putting ≡ putting_of budget row.now) }
     ensures reads_back { IfOk result (λ _. IsKept row.now.outputs

@@ -92,7 +92,7 @@ impl From<StoreError> for RecordFault {
     }
 }
 
-/// What the log says of a command: done, its refusal, or nothing where memory ran out.
+/// What the log says of a command: done, its refusal, or nothing if memory ran out.
 pub fn told_of<T>(answer: &Result<T, RecordFault>) -> Option<Result<(), RecordRefusal>>
     ensures { result ≡ told_of answer.now }
 {

@@ -1,4 +1,4 @@
-//! Opening a record, and making one where the store has none.
+//! Opening a record, and making one if the store has none.
 
 ghost use Rattle.std.specs.Prelude.{◌≡◌, ◌⊎◌, [], true, false, IsTrue, IfOk, IfErr};
 ghost use Rattle.sqlite.specs.State.{HasCleanDisk, IsUnchanged, Survives, CommitsShowing};
@@ -38,7 +38,7 @@ pub enum Tables {
     All,
 }
 
-/// Makes the tables where the store has none, and makes a record of version 1 one of version 2.
+/// Makes the tables if the store has none, and makes a record of version 1 one of version 2.
 pub fn open_tables<S: Alter>(alloc: Global, conn: &mut Connection<S>) -> Result<(), RecordFault>
     requires { conn.old.in_transaction ≡ false }
     ensures opens { HasCleanDisk (state S.Store conn.new) → Opens S.Store conn.old conn.new result }
@@ -182,7 +182,7 @@ fn make_in<S: Alter>(making: &mut Transaction<'_, S>) -> Result<(), RecordFault>
     Ok(())
 }
 
-// The version: R1 where there is none.
+// The version: R1 if there is none.
 #[tactic(auto, using(crate::proofs::Opens::version_reads))]
 fn read_version<S: Alter>(conn: &mut Connection<S>) -> Result<i64, RecordFault>
     ensures reads { HasCleanDisk (state S.Store conn.new)

@@ -23,7 +23,7 @@ const ARCHIVED: &str = "SELECT key, files FROM job WHERE archived = 1 ORDER BY k
 
 const RENOTE_VERSION: &str = "UPDATE meta SET value = 2 WHERE name = 'version'";
 
-/// Makes the table of the archives: each archived row has one, and their numbers count from 1 by the bytes of the keys. R1 where the
+/// Makes the table of the archives: each archived row has one, and their numbers count from 1 by the bytes of the keys. R1 if the
 /// files of such a row do not read, and then the store is as it was.
 pub fn migrate<S: Alter>(alloc: Global, conn: &mut Connection<S>) -> Result<(), RecordFault>
     requires { conn.old.in_transaction ≡ false }

@@ -48,15 +48,15 @@ impl<S: Alter + Drop> Drop for JobRecord<S> {
 }
 
 impl<S: Alter + Drop> JobRecord<S> {
-    /// Opens the record in a store, or makes one where the store has none of its tables. The archives may have together at most as
+    /// Opens the record in a store, or makes one if the store has none of its tables. The archives may have together at most as
     /// many bytes as the budget, if there is one. Looks at the tables and the version, and at no row: `find` and `list` refuse the
     /// rows that do not read. A record of version 1 is made one of version 2: then the files of its archived rows are read. A
     /// refusal hands the connection back.
     ///
     /// # Errors
     ///
-    /// R1 where the store lacks a table that its version has, or has one more, a table lacks a column, there is no version, or
-    /// files of version 1 do not read; R2 where the version is another one; R4.
+    /// R1 if the store lacks a table that its version has, or has one more, a table lacks a column, there is no version, or
+    /// files of version 1 do not read; R2 if the version is another one; R4.
     pub fn open_record(
         alloc: Global,
         mut conn: Connection<S>,
@@ -125,7 +125,7 @@ impl<S: Alter> JobRecord<S> {
     ///
     /// # Errors
     ///
-    /// R1 if the row does not read, or has another key; R4; want of memory.
+    /// R1 if the row does not read, or has another key; R4; out of memory.
     #[tactic(auto, using(crate::proofs::MapSteps::find_is_map))]
     pub fn find(&mut self, key: &str) -> Result<Option<Row>, RecordFault>
         ensures finds { HasCleanDisk (state S.Store self.new.conn)
@@ -153,7 +153,7 @@ impl<S: Alter> JobRecord<S> {
     ///
     /// # Errors
     ///
-    /// R4, also where the cost is not from 1 to 10^12; R5 where no number is left for its archive; out of memory.
+    /// R4, also if the cost is not from 1 to 10^12; R5 if no number is left for its archive; out of memory.
     #[tactic(auto, using(crate::proofs::Asked::idle_stands, crate::proofs::Asked::idle_keeps, crate::proofs::Asked::idle_whole, crate::proofs::Asked::idle_safe))]
     pub fn put(&mut self, row: &Row) -> Result<Items<Text>, RecordFault>
         ensures map { HasCleanDisk (state S.Store self.new.conn)
@@ -234,7 +234,7 @@ impl<S: Alter> JobRecord<S> {
     ///
     /// # Errors
     ///
-    /// R3 where no archived row has the key; R4; R5 where no number is left; want of memory.
+    /// R3 if no archived row has the key; R4; R5 if no number is left; out of memory.
     #[tactic(auto, using(crate::proofs::Asked::idle_stands, crate::proofs::Asked::idle_keeps, crate::proofs::Asked::idle_whole, crate::proofs::Asked::idle_safe))]
     pub fn touch(&mut self, key: &str) -> Result<(), RecordFault>
         ensures map { HasCleanDisk (state S.Store self.new.conn)
@@ -273,7 +273,7 @@ impl<S: Alter> JobRecord<S> {
     ///
     /// # Errors
     ///
-    /// R3 where no row has the key; R4; want of memory.
+    /// R3 if no row has the key; R4; out of memory.
     #[tactic(auto, using(crate::proofs::Asked::idle_stands, crate::proofs::Asked::idle_keeps, crate::proofs::Asked::idle_whole, crate::proofs::Asked::idle_safe))]
     pub fn drop_archive(&mut self, key: &str) -> Result<(), RecordFault>
         ensures map { HasCleanDisk (state S.Store self.new.conn)
@@ -314,7 +314,7 @@ impl<S: Alter> JobRecord<S> {
     ///
     /// # Errors
     ///
-    /// R3 where no row has the key; R4; want of memory.
+    /// R3 if no row has the key; R4; out of memory.
     #[tactic(auto, using(crate::proofs::Asked::idle_stands, crate::proofs::Asked::idle_keeps, crate::proofs::Asked::idle_whole, crate::proofs::Asked::idle_safe))]
     pub fn forget(&mut self, key: &str) -> Result<(), RecordFault>
         ensures map { HasCleanDisk (state S.Store self.new.conn)
@@ -354,7 +354,7 @@ impl<S: Alter> JobRecord<S> {
     ///
     /// # Errors
     ///
-    /// R1 where a row does not read; R4; want of memory.
+    /// R1 if a row does not read; R4; out of memory.
     #[tactic(auto, using(crate::proofs::MapSteps::list_is_map))]
     pub fn list(&mut self) -> Result<Items<Row>, RecordFault>
         ensures lists { HasCleanDisk (state S.Store self.new.conn)
@@ -376,7 +376,7 @@ impl<S: Alter> JobRecord<S> {
     ///
     /// # Errors
     ///
-    /// R1 where a key is no text in UTF-8; R4; want of memory.
+    /// R1 if a key is no text in UTF-8; R4; out of memory.
     #[tactic(auto, using(crate::proofs::KeysHeld::keys_is_map))]
     pub fn keys(&mut self) -> Result<Items<Text>, RecordFault>
         ensures lists { HasCleanDisk (state S.Store self.new.conn)
@@ -398,7 +398,7 @@ impl<S: Alter> JobRecord<S> {
     ///
     /// # Errors
     ///
-    /// R1 where an archive does not read; R4; want of memory.
+    /// R1 if an archive does not read; R4; out of memory.
     pub fn archives(&mut self) -> Result<Items<Archive>, RecordFault>
         ensures clean { HasCleanDisk (state S.Store self.new.conn)
             → HasCleanDisk (state S.Store self.old.conn) }

@@ -20,7 +20,7 @@ use std::alloc::Global;
 ///
 /// # Errors
 ///
-/// R1 where the store lacks a table that its version has, or has one more, a table lacks a column, or there is no version; R2 where
+/// R1 if the store lacks a table that its version has, or has one more, a table lacks a column, or there is no version; R2 if
 /// the version is another one; R4.
 #[tactic(auto, using(crate::proofs::Chain::was_clean))]
 pub fn look<S: Alter>(conn: &mut Connection<S>) -> Result<(), RecordFault>
@@ -43,7 +43,7 @@ pub fn look<S: Alter>(conn: &mut Connection<S>) -> Result<(), RecordFault>
 ///
 /// # Errors
 ///
-/// R1 where a row does not read; R4; want of memory.
+/// R1 if a row does not read; R4; out of memory.
 #[tactic(auto, using(crate::proofs::MapSteps::list_is_map, crate::proofs::Seen::list_sees))]
 pub fn rows_of<S: Alter>(alloc: Global, conn: &mut Connection<S>) -> Result<Items<Row>, RecordFault>
     ensures clean { HasCleanDisk (state S.Store conn.new)
@@ -63,8 +63,8 @@ pub fn rows_of<S: Alter>(alloc: Global, conn: &mut Connection<S>) -> Result<Item
 ///
 /// # Errors
 ///
-/// R1 where a key is no text in UTF-8, or the bytes or the use are no number; R4, also of a record of version 1, which has no table
-/// of archives; want of memory.
+/// R1 if a key is no text in UTF-8, or the bytes or the use are no number; R4, also of a record of version 1, which has no table
+/// of archives; out of memory.
 #[tactic(auto, using(crate::proofs::ArchivesHeld::archives_are_map, crate::proofs::ArchivesHeld::archives_see_none))]
 pub fn archives_of<S: Alter>(
     alloc: Global,

@@ -47,7 +47,7 @@ pub fn stored_of(alloc: Global, row: &Row, archived: bool) -> Result<Stored, All
     })
 }
 
-/// The bytes of the files that the text lists, held to the greatest number that the store has. R1 where it does not read.
+/// The bytes of the files that the text lists, held to the greatest number that the store has. R1 if it does not read.
 pub fn bytes_in(alloc: Global, text: &Text) -> Result<u64, RecordFault>
     ensures ok { IfOk result (λ bytes. (files : _) × ReadsAsFiles text.now files
         × (bytes ≡ bytes_in files)) }

@@ -216,8 +216,8 @@ fn room_beside(budget: Option<u64>, own: &Option<Archive>) -> Option<u64>
     }
 }
 
-// How many archives have to go, oldest first, until the rest is within the budget.
-fn lost_count(archives: &[Archive], budget: Option<u64>) -> usize
+/// Returns how many archives have to go, the first of these, until the rest is within the budget.
+pub fn lost_count(archives: &[Archive], budget: Option<u64>) -> usize
     ensures { result ≡ lost_count budget archives.now }
 {
     let Some(most) = budget else {

@@ -16,6 +16,7 @@ mod refusal;
 mod row;
 
 pub use archive::Archive;
+pub use archives::lost_count;
 pub use laws::{archives_stay_in_step, budget_is_kept, outputs_read_back};
 pub use log::{Command, Entry};
 pub use memory::MemoryRecord;

@@ -2,7 +2,7 @@
 ghost use Rattle.std.specs.Prelude.{◌≡◌, ◌≤◌, ℕ, IfOk, IfErr, Some, length, take};
 ghost use Rattle.sqlite.specs.State.{HasCleanDisk};
 ghost use Rattle.sqlite.specs.Held.{state};
-ghost use Rattle.job_rows.specs.Map.{keys_in, lost_count};
+ghost use Rattle.job_rows.specs.Map.{keys_in};
 ghost use Rattle.job_record.specs.declared.fault.RecordFault.TheVariants.{OutOfMemory};
 ghost use Rattle.job_record.specs.Counted.{FitsSpace};
 ghost use Rattle.job_record.specs.Map.{IsRecordOf};
@@ -13,7 +13,7 @@ ghost use Rattle.record_program.specs.inner.Steps.{HoldsLost, LosesFirst, LosesO
 use crate::ending::Ending;
 use crate::store::shown;
 use job_record::{JobRecord, RecordFault};
-use job_rows::Archive;
+use job_rows::{Archive, lost_count};
 use plain_data::{Items, Text};
 use sqlite::{Alter, Error};
 use std::alloc::{AllocError, Global};
@@ -88,21 +88,8 @@ pub fn lost_keys(
 ) -> Result<Items<Text>, AllocError>
     ensures { IfOk result (λ keys. keys ≡ lost_keys budget archives.now) }
 {
-    let count = lost_count(archives, budget);
+    let count = lost_count(archives, Some(budget));
     keys_of(alloc, &archives[..count])
-}
-
-// The last ones stay, as many as there is room for.
-fn lost_count(archives: &[Archive], budget: u64) -> usize
-    ensures { result ≡ lost_count (Some budget) archives.now }
-{
-    let mut room = budget;
-    let mut count = archives.len();
-    while count > 0 && archives[count - 1].bytes <= room {
-        count -= 1;
-        room -= archives[count].bytes;
-    }
-    count
 }
 
 fn keys_of(alloc: Global, archives: &[Archive]) -> Result<Items<Text>, AllocError>

@@ -41,13 +41,13 @@ IsOfStore _ = ⊥
 abbrev pub Answer : Type 0 → Type 1
 Answer T = KeyMap → T → KeyMap → Type 0
 
--- Where the map meets the premise, a step that goes on leaves what is told of it, and one that is refused has this cause, or the store's.
+-- If the map meets the premise, a step that goes on leaves what is told of it, and one that is refused has this cause, or the store's.
 abbrev pub Steps : {T : Type 0} → State → State → (KeyMap → Type 0) → Answer T → (KeyMap → RecordFault → Type 0) → Result T RecordFault → Type 0
 Steps old new Given Told Why (Ok value) = GoesOn old new × ((map : KeyMap) → HoldsMap old.now map → Given map → (next : KeyMap) × HoldsMap new.now next × Told map value next)
 Steps old new Given Told Why (Err fault) =
     KeepsCommit old new × (IsOfStore fault ⊎ IsTrue old.is_open) × ((map : KeyMap) → HoldsMap old.now map → Given map → IsOfStore fault ⊎ Why map fault)
 
--- The same on a clean disk and in a transaction, where the premise holds; and nothing is committed on the way.
+-- The same on a clean disk and in a transaction, if the premise holds; and nothing is committed on the way.
 abbrev pub Walks : {T : Type 0} → Type 0 → State → State → (KeyMap → Type 0) → Answer T → (KeyMap → RecordFault → Type 0) → Result T RecordFault → Type 0
 Walks Premise old new Given Told Why result = Survives old new (λ _. ⊥) × (HasCleanDisk new → IsTrue old.in_transaction → Premise → Steps old new Given Told Why result)
 
@@ -109,7 +109,7 @@ sum_in all = sum_by (λ c. number_in (column c 0)) all
 abbrev pub putting_of : Option ℕ → Row → Putting
 putting_of budget row = record { stored = texts_of (kept_as budget row); bytes = bytes_of row; is_asked = row.archived }
 
--- how many bytes the archives have, where that was counted
+-- how many bytes the archives have, if that was counted
 abbrev pub IsCounted : Option ℕ → KeyMap → Type 0
 IsCounted counted map = IfSome counted (λ bytes. bytes ≡ total_bytes map.archives)
 
@@ -131,17 +131,17 @@ lost_in map = lost_count map.budget map.archives
 abbrev pub lost_keys : KeyMap → List (List ℕ)
 lost_keys map = keys_in (take (lost_in map) map.archives)
 
--- the key of a row that is put, where its own archive is lost or refused
+-- the key of a row that is put, if its own archive is lost or refused
 abbrev pub own_key : Putting → Option ℕ → List (List ℕ)
 own_key putting had = if not putting.stored.archived && (putting.is_asked || is_some had) then putting.stored.key ∷ [] else []
 
--- the bytes of all archives once a row is set, from those before, where they fit
+-- the bytes of all archives once a row is set, from those before, if they fit
 abbrev pub total_after : ℕ → Putting → Option ℕ → ℕ
 total_after before putting had = min (before - unwrap_or had 0 + (if putting.stored.archived then putting.bytes else 0)) (2 ^ 128 - 1)
 
 -- ---- what the steps need and answer
 
--- the number of the next use, where one is left
+-- the number of the next use, if one is left
 abbrev pub IsNext : KeyMap → ℕ → Type 0
 IsNext map used = (used ≡ next_used map.archives) × AreUnspent map.archives
 
