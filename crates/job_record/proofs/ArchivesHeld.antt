@@ -1,5 +1,5 @@
 -- The archives that are listed are those of the map, in their order.
-use Rattle.std.proofs.Common.{◌≡◌, ◌⊎◌, inl, inr, ℕ, ◌+◌, ◌<◌, ◌≤◌, pos, false, List, [], ◌∷◌, ◌++◌, map as mapped, take, length, get_or, Ok, Err, Result, refl, sym, ap, subst, ◌∙◌, arith}
+use Rattle.std.proofs.Common.{◌≡◌, ◌⊎◌, inl, inr, ℕ, ◌+◌, ◌<◌, ◌≤◌, pos, false, List, [], ◌∷◌, ◌++◌, map as mapped, take, length, get_or, Ok, Err, Result, IsTrue, refl, sym, ap, subst, ◌∙◌, arith}
 use Rattle.std.specs.Prelude.{sum_by}
 use Rattle.std.proofs.lemmas.List as lists
 use Rattle.std.proofs.lemmas.List.Sorted.{sum_by-IsPermutation}
@@ -11,10 +11,11 @@ use Rattle.sqlite.specs.Order.{Row as Columns, column}
 use Rattle.sqlite.specs.Program.{overlay}
 use Rattle.sqlite.specs.Query.{Output, output, IsSureAnswer}
 use Rattle.sqlite.specs.Schema.{Schema}
+use Rattle.sqlite.specs.Tree.{Trees}
 use Rattle.sqlite.specs.Listing.{understood}
 use Rattle.sqlite.specs.declared.error.Error.{Error}
 use Rattle.sqlite.specs.declared.error.Error.TheVariants.{SqlInputError}
-use Rattle.sqlite.specs.State.{State, store_error, IsUnchanged, IsRolledBack, IsNotRun, FailsToQuery, Shown}
+use Rattle.sqlite.specs.State.{State, store_error, IsUnchanged, IsRolledBack, IsNotRun, FailsToQuery, Shown, HasCleanDisk, Survives, CommitsShowing}
 use Rattle.sqlite.specs.Held.{Held, state}
 use Rattle.sqlite.proofs.Callers.{IsPlain, reads_as}
 use Rattle.sqlite_trees.specs.declared.error.StoreError.{StoreError}
@@ -29,15 +30,18 @@ use Rattle.job_record.specs.declared.fault.RecordFault.TheVariants.{NotARecord, 
 use Rattle.job_record.specs.Tables.{record_with}
 use Rattle.job_record.specs.Archives.{archives_text, archive_columns, IsArchiveIn, IsNoArchive, AreArchivesIn}
 use Rattle.job_record.specs.RecordMap.{ListsArchives}
-use Rattle.job_record.specs.Map.{KeyMap, HoldsMap, IsRecord, ArchivesIn}
+use Rattle.job_record.specs.Map.{KeyMap, HoldsMap, IsRecord, Stands, ArchivesIn}
+use Rattle.job_record.specs.Crash.{ReadsSafely}
 use Rattle.job_record.specs.OpenMap.{IsFirst}
 use Rattle.job_record.specs.Seen.{SeesNone}
+use Rattle.job_record.specs.inner.Crash.{RunsOpen}
 use Rattle.job_record.specs.inner.Inside.{number_in}
 use Rattle.job_record.proofs.Compiled.{archives_project, archives_query, archives_is, archives_plain, archives_absent}
 use Rattle.job_record.proofs.Looking.{row_archive, ordered, order, outs, answer, shown_are, sorted_are, kept_are, out_archive, archive_out, rising_above}
 use Rattle.job_record.proofs.MapSteps.{same_shows, undone_stands}
 use Rattle.job_record.proofs.Queries.{shown_same, failed_same}
 use Rattle.job_record.proofs.RisingUses.{counts, at_most_one, IsFirstAfter, uses, sorted_rise, same_list, used_tells}
+use Rattle.job_record.proofs.SafeCalls.{reads_safe}
 use Rattle.job_record.proofs.Seen.{first_undone}
 use Rattle.job_record.proofs.Shown.{passes, chosen, overlay_none}
 
@@ -189,6 +193,22 @@ module _ {S : Type 0} (g : Ghosts S) (old new : Held S) where
   archives_are_map (Err (Store e)) (inl h) it map holds = undone_stands (state g old) (state g new) it (failed_same archives_text [] (state g old) (state g new) (is_plain it) e h)
   archives_are_map (Err (Store e)) (inr h) it map holds = λ open_now. same_shows (state g old) (state g new) it (same it h.1 h.2)
   archives_are_map (Err OutOfMemory) h it map holds = λ open_now. same_shows (state g old) (state g new) it (same it h.0 h.1)
+
+  archives_stand : (result : Result (List Archive) RecordFault) → ListsArchives g old new result → IsRecord (state g old) → Stands (state g old) (state g new)
+  archives_stand (Ok xs) h it open_now = same_shows (state g old) (state g new) it (same it h.0 h.1)
+  archives_stand (Err NotARecord) h it open_now = same_shows (state g old) (state g new) it (same it h.0 h.1)
+  archives_stand (Err WrongVersion) h it open_now = absurd h
+  archives_stand (Err NoRow) h it open_now = absurd h
+  archives_stand (Err UsesSpent) h it open_now = absurd h
+  archives_stand (Err (Store e)) (inl h) it open_now =
+      undone_stands (state g old) (state g new) it (failed_same archives_text [] (state g old) (state g new) (is_plain it) e h) open_now
+  archives_stand (Err (Store e)) (inr h) it open_now = same_shows (state g old) (state g new) it (same it h.1 h.2)
+  archives_stand (Err OutOfMemory) h it open_now = same_shows (state g old) (state g new) it (same it h.0 h.1)
+
+  pub archives_safe : (law : (s : S) (trees : Trees) → IsTrue (g.view s).is_open → g.recovers s trees → trees ≡ (g.view s).committed) (result : Result (List Archive) RecordFault)
+      → ListsArchives g old new result → RunsOpen (state g old) (state g new) → HasCleanDisk (state g new) → Survives (state g old) (state g new) (CommitsShowing archives_text [] (state g old))
+      → ReadsSafely (state g old) (state g new)
+  archives_safe law result lists = reads_safe g old new law archives_text [] (archives_stand result lists) is_plain
 
 -- ---- a record of version 1
 

@@ -180,6 +180,8 @@ pub fn all_archives<S: Alter>(
         → ListsArchives S.Store conn.old conn.new result }
     ensures survives { Survives (state S.Store conn.old) (state S.Store conn.new)
         (CommitsShowing archives_text [] (state S.Store conn.old)) }
+    ensures open { HasCleanDisk (state S.Store conn.new)
+        → RunsOpen (state S.Store conn.old) (state S.Store conn.new) }
     ensures mode { conn.old.in_transaction ≡ false → conn.new.in_transaction ≡ false }
 {
     match tables::archives(conn) {

@@ -2,7 +2,8 @@ ghost use Rattle.std.specs.Prelude.{◌≡◌, [], false, None, Ok, Err, IfOk, I
 ghost use Rattle.sqlite.specs.State.{HasCleanDisk, KeepsCommit, Survives, CommitsShowing};
 ghost use Rattle.sqlite.specs.Held.{state};
 ghost use Rattle.job_record.specs.Statements.{find_text, list_text, key_params};
-ghost use Rattle.job_record.specs.RecordMap.{Finds, Lists, ListsKeys, AnswersOpen};
+ghost use Rattle.job_record.specs.Archives.{archives_text};
+ghost use Rattle.job_record.specs.RecordMap.{Finds, Lists, ListsArchives, ListsKeys, AnswersOpen};
 ghost use Rattle.job_record.specs.Map.{ArchivesIn, HoldsMap, IsRecord, IsRecordOf, FindsIn, PutsIn, TouchesIn, ChangesIn, ListsIn, KeysIn, sets, touches, unarchives, forgets, changed_by, kept_as};
 ghost use Rattle.job_record.specs.Blame.{Blames, put_texts, touch_texts, drop_texts, forget_texts};
 ghost use Rattle.job_record.specs.Log.{Logs};
@@ -402,10 +403,16 @@ impl<S: Alter> JobRecord<S> {
     pub fn archives(&mut self) -> Result<Items<Archive>, RecordFault>
         ensures clean { HasCleanDisk (state S.Store self.new.conn)
             → HasCleanDisk (state S.Store self.old.conn) }
+        ensures lists { HasCleanDisk (state S.Store self.new.conn)
+            → ListsArchives S.Store self.old.conn self.new.conn result }
         ensures map { HasCleanDisk (state S.Store self.new.conn)
             → IsRecord (state S.Store self.old.conn)
             → (map : _) → HoldsMap (state S.Store self.old.conn).now map
             → ArchivesIn map (state S.Store self.old.conn) (state S.Store self.new.conn) result }
+        ensures survives { Survives (state S.Store self.old.conn) (state S.Store self.new.conn)
+            (CommitsShowing archives_text [] (state S.Store self.old.conn)) }
+        ensures safe { HasCleanDisk (state S.Store self.new.conn)
+            → ReadsSafely (state S.Store self.old.conn) (state S.Store self.new.conn) }
         ensures space { self.new.space ≡ self.old.space }
         ensures log { self.new.log ≡ self.old.log }
     {

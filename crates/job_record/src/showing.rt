@@ -1,12 +1,14 @@
 //! A record that is looked at as it is, also one of version 1.
 
 ghost use Rattle.std.specs.Prelude.{◌≡◌, ◌⊎◌, false, OnOk};
-ghost use Rattle.sqlite.specs.State.{HasCleanDisk, IsUnchanged};
+ghost use Rattle.sqlite.specs.State.{CommitsShowing, HasCleanDisk, IsUnchanged, Survives};
 ghost use Rattle.sqlite.specs.Held.{state};
+ghost use Rattle.job_record.specs.Archives.{archives_text};
 ghost use Rattle.job_record.specs.Map.{ArchivesIn, HoldsMap, IsRecord, ListsIn};
 ghost use Rattle.job_record.specs.OpenMap.{IsBlank, IsFirst};
 ghost use Rattle.job_record.specs.RecordMap.{Lists, ListsArchives};
 ghost use Rattle.job_record.specs.Seen.{SeesIn, SeesNone};
+ghost use Rattle.job_record.specs.inner.Crash.{RunsOpen};
 
 use crate::commands::{all_archives, read_all};
 use crate::fault::RecordFault;
@@ -81,6 +83,10 @@ pub fn archives_of<S: Alter>(
     ensures first { HasCleanDisk (state S.Store conn.new)
         → IsFirst (state S.Store conn.old)
         → SeesNone (state S.Store conn.old) (state S.Store conn.new) result }
+    ensures survives { Survives (state S.Store conn.old) (state S.Store conn.new)
+        (CommitsShowing archives_text [] (state S.Store conn.old)) }
+    ensures open { HasCleanDisk (state S.Store conn.new)
+        → RunsOpen (state S.Store conn.old) (state S.Store conn.new) }
     ensures mode { conn.old.in_transaction ≡ false → conn.new.in_transaction ≡ false }
 {
     all_archives(alloc, conn)

@@ -186,6 +186,8 @@ pub fn archives<S: Alter>(conn: &mut Connection<S>) -> Result<Vec<Columns>, Erro
         (state S.Store conn.new)) }
     ensures survives { Survives (state S.Store conn.old) (state S.Store conn.new)
         (CommitsShowing archives_text [] (state S.Store conn.old)) }
+    ensures open { HasCleanDisk (state S.Store conn.new)
+        → RunsOpen (state S.Store conn.old) (state S.Store conn.new) }
     ensures mode { conn.old.in_transaction ≡ false → conn.new.in_transaction ≡ false }
 {
     all_rows(conn, ARCHIVES, &[])
