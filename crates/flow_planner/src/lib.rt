@@ -4,13 +4,13 @@
 //! it doesn't prune, is so in every cheapest plan. With it come charges that make it a certificate, which
 //! `plan_checker::check` takes. It fails only as out of memory.
 //!
-//! `greatest` finds a greatest flow of the graph by the level graphs of `level_graphs`, for `plan_again` from `mend`ed
-//! earlier charges. No proof of a plan rests on what it comes to. Its charges are checked, as anybody could check them,
-//! and from fair ones (or, were they ever refused, from none) `path_planner` goes on, whose plan is proved to be the Least
-//! one.
+//! `greatest` sends all that can flow in the network of the graph, by the level graphs of `level_graphs`; for `plan_again` it
+//! begins with `mend`ed earlier charges, if `plan_checker` finds them fair. The flow is the charges, and the plan is what the
+//! last level graph shows: what has a level is kept, and computed if its second node has one.
 #![tactic(auto)]
 
 mod error;
+mod flows;
 mod greatest;
 mod mend;
 mod network;
@@ -18,4 +18,4 @@ mod planner;
 
 pub use error::OutOfMemory;
 pub use level_graphs::Phases;
-pub use planner::{plan, plan_again, plan_by_paths, plan_counted};
+pub use planner::{plan, plan_again, plan_counted};

@@ -2,8 +2,9 @@
 //!
 //! Rising, each vertex learns how much it can still carry: what it pays and what its parents still take from it, at most
 //! its load cost. Falling, what really comes in at a vertex is poured out again. No contract rests on what comes of it:
-//! the charges that are made from it are checked.
+//! it is checked before a flow begins with it.
 
+use crate::network::{amount_at, pass_at};
 use plain_data::Items;
 use plan_checker::{Charges, Vertex};
 use std::alloc::{AllocError, Global};
@@ -19,11 +20,6 @@ struct Carried {
 pub fn mended(alloc: Global, vertices: &[Vertex], last: &Charges) -> Result<Charges, AllocError> {
     let carried = rising(alloc, vertices, last)?;
     falling(alloc, vertices, last, &carried)
-}
-
-/// The amount in this place; 0 past the end.
-fn amount_at(amounts: &[u64], place: usize) -> u64 {
-    amounts.get(place).copied().unwrap_or(0)
 }
 
 /// Adds to the amount in this place.
@@ -68,11 +64,7 @@ fn shares_of(
 ) -> Result<Items<u64>, AllocError> {
     let mut row = Vec::with_capacity(alloc, vertex.parents.len())?;
     for (slot, parent) in vertex.parents.as_slice().iter().enumerate() {
-        let passed = match last.pass.get(job) {
-            Some(passes) => amount_at(passes.as_slice(), slot),
-            None => 0,
-        };
-        row.push(take(left, *parent, passed))?;
+        row.push(take(left, *parent, pass_at(last, job, slot)))?;
     }
     Ok(Items::from_vec(row))
 }

@@ -1,52 +1,55 @@
 //! The planner.
 
-ghost use Rattle.std.specs.Prelude.{◌+◌, ◌*◌, ◌≤◌, ◌^◌, IfOk, length};
+ghost use Rattle.std.specs.Prelude.{List, ◌+◌, ◌*◌, ◌≤◌, ◌^◌, IfOk, IsTrue, length};
 ghost use Rattle.plan_checker.specs.Charges.{AreFair};
+ghost use Rattle.plan_checker.specs.declared.vertex.Vertex.{Vertex};
 ghost use Rattle.plan_checker.specs.Least.{IsLeast};
 ghost use Rattle.plan_checker.specs.Certificate.{IsCertificate};
+ghost use Rattle.flow_planner.specs.Network.{Separates};
+ghost use Rattle.flow_planner.specs.inner.Network.{AreFlowing};
 
 use crate::error::OutOfMemory;
-use crate::greatest::{greatest, greatest_from};
+use crate::greatest::greatest;
 use crate::mend::mended;
 use level_graphs::Phases;
-use path_planner::{no_charges, plan_from};
-use plan_checker::{Charges, Graph, Plan, check};
+use plain_data::Items;
+use plan_checker::{Broken, Charges, Graph, Mark, Plan, check};
 use std::alloc::{AllocError, Global};
 
-/// The charges of a greatest flow, where they are fair.
-fn fair_start(alloc: Global, graph: &Graph, phases: &mut Phases) -> Result<Charges, AllocError>
-    requires { phases.old.count ≤ 2 ^ 63 }
-    ensures fair { IfOk result (λ charges. AreFair graph.now charges) }
-    ensures phases { phases.new.count ≤ phases.old.count + 2 * length graph.now + 1 }
+/// No charges: nothing flows.
+fn nothing(alloc: Global) -> Charges
+    ensures { (graph : List Vertex) → AreFlowing graph result }
 {
-    let vertices = graph.vertices();
-    let (plan, charges) = greatest(alloc, vertices, phases)?;
-    checked(alloc, graph, &plan, charges)
+    Charges {
+        enter: Items::new(alloc),
+        through: Items::new(alloc),
+        pay: Items::new(alloc),
+        pass: Items::new(alloc),
+    }
 }
 
-/// The same, from the charges of an earlier graph.
-fn fair_again(alloc: Global, graph: &Graph, last: &Charges) -> Result<Charges, AllocError>
-    ensures { IfOk result (λ charges. AreFair graph.now charges) }
+/// The charges of an earlier graph, mended; none if they aren't fair.
+fn start_again(alloc: Global, graph: &Graph, last: &Charges) -> Result<Charges, AllocError>
+    ensures { IfOk result (AreFlowing graph.now) }
 {
-    let vertices = graph.vertices();
-    let start = mended(alloc, vertices, last)?;
-    let mut phases = Phases::new();
-    let (plan, charges) = greatest_from(alloc, vertices, &start, &mut phases)?;
-    checked(alloc, graph, &plan, charges)
+    let start = mended(alloc, graph.vertices(), last)?;
+    if are_fair(alloc, graph, &start)? {
+        return Ok(start);
+    }
+    Ok(nothing(alloc))
 }
 
-/// These charges where they certify this plan, and else none.
-fn checked(
-    alloc: Global,
-    graph: &Graph,
-    plan: &Plan,
-    charges: Charges,
-) -> Result<Charges, AllocError>
-    ensures { IfOk result (λ charges. AreFair graph.now charges) }
+/// Whether charges are fair: nothing but the cost is wrong with the plan that computes everything.
+fn are_fair(alloc: Global, graph: &Graph, charges: &Charges) -> Result<bool, AllocError>
+    ensures { IfOk result (λ fair. IsTrue fair → AreFair graph.now charges.now) }
 {
-    match check(graph, plan, &charges) {
-        Ok(_) => Ok(charges),
-        Err(_) => no_charges(alloc, graph),
+    let marks = vec![in alloc; Mark::Compute; graph.vertices().len()]?;
+    let plan = Plan {
+        marks: Items::from_vec(marks),
+    };
+    match check(graph, &plan, charges) {
+        Ok(_) => Ok(true),
+        Err(broken) => Ok(matches!(broken, Broken::Sum(_, _))),
     }
 }
 
@@ -65,7 +68,7 @@ pub fn plan(alloc: Global, graph: &Graph) -> Result<(Plan, Charges), OutOfMemory
 /// The same, with a count of the phases: for each level graph that is built, `phases` counts one more.
 ///
 /// There are at most two for each vertex, and one: with each phase more arcs lie between the source and the sink, and no
-/// more of them than there are nodes.
+/// more of them than there are nodes. The last one doesn't reach the sink: the plan is what it separates.
 pub fn plan_counted(
     alloc: Global,
     graph: &Graph,
@@ -74,10 +77,11 @@ pub fn plan_counted(
     requires { phases.old.count ≤ 2 ^ 63 }
     ensures least { IfOk result (λ made. IsLeast graph.now made.0.marks) }
     ensures certified { IfOk result (λ made. IsCertificate graph.now made.0.marks made.1) }
+    ensures separated { IfOk result (λ made. Separates graph.now made.1 made.0.marks) }
     ensures phases { phases.new.count ≤ phases.old.count + 2 * length graph.now + 1 }
 {
-    let start = fair_start(alloc, graph, phases)?;
-    Ok(plan_from(alloc, graph, start)?)
+    let start = nothing(alloc);
+    Ok(greatest(alloc, graph.vertices(), &start, phases)?)
 }
 
 /// The Least plan of a graph, and charges that certify it, from the charges of an earlier graph.
@@ -92,17 +96,7 @@ pub fn plan_again(
     ensures least { IfOk result (λ made. IsLeast graph.now made.0.marks) }
     ensures certified { IfOk result (λ made. IsCertificate graph.now made.0.marks made.1) }
 {
-    let start = fair_again(alloc, graph, last)?;
-    Ok(plan_from(alloc, graph, start)?)
-}
-
-/// The Least plan of a graph, and charges that certify it, found path by path from no charges.
-///
-/// It gives what `plan` gives, later: the plan to compare with.
-pub fn plan_by_paths(alloc: Global, graph: &Graph) -> Result<(Plan, Charges), OutOfMemory>
-    ensures least { IfOk result (λ made. IsLeast graph.now made.0.marks) }
-    ensures certified { IfOk result (λ made. IsCertificate graph.now made.0.marks made.1) }
-{
-    let start = no_charges(alloc, graph)?;
-    Ok(plan_from(alloc, graph, start)?)
+    let start = start_again(alloc, graph, last)?;
+    let mut phases = Phases::new();
+    Ok(greatest(alloc, graph.vertices(), &start, &mut phases)?)
 }

@@ -16,4 +16,4 @@ mod planner;
 mod search;
 
 pub use begin::no_charges;
-pub use planner::plan_from;
+pub use planner::{plan_by_paths, plan_from};

@@ -9,6 +9,7 @@ ghost use Rattle.path_planner.specs.inner.Flow.{AreFairBut, nothing};
 ghost use Rattle.path_planner.specs.inner.Search.{marked, AreMarked};
 
 use crate::augment::augment;
+use crate::begin::no_charges;
 use crate::chase::{Chase, find_path};
 use crate::search::Search;
 use plain_data::Items;
@@ -78,4 +79,13 @@ pub fn plan_from(
     ensures certified { IfOk result (λ made. IsCertificate graph.now made.0.marks made.1) }
 {
     exhausted(alloc, graph.vertices(), start)
+}
+
+/// The Least plan of a graph, and charges that certify it, from no charges.
+pub fn plan_by_paths(alloc: Global, graph: &Graph) -> Result<(Plan, Charges), AllocError>
+    ensures least { IfOk result (λ made. IsLeast graph.now made.0.marks) }
+    ensures certified { IfOk result (λ made. IsCertificate graph.now made.0.marks made.1) }
+{
+    let start = no_charges(alloc, graph)?;
+    plan_from(alloc, graph, start)
 }

@@ -1,7 +1,8 @@
 //! How long a plan, its check, and a plan from earlier charges take.
 
 use anyhow::{Result, anyhow};
-use flow_planner::{plan, plan_again, plan_by_paths};
+use flow_planner::{plan, plan_again};
+use path_planner::plan_by_paths;
 use plan_checker::{Charges, Graph, Plan, check};
 use std::mem;
 use std::time::Instant;

@@ -4,8 +4,9 @@ mod every_plan;
 mod generator;
 
 use every_plan::{cheapest, cost_of};
-use flow_planner::{plan, plan_again, plan_by_paths};
+use flow_planner::{plan, plan_again};
 use generator::{apart, changed, larger, small};
+use path_planner::plan_by_paths;
 use plan_checker::{Charges, Graph, Plan, check};
 use plan_keeper::{plan_apart, plan_cost};
 use std::alloc::Global;

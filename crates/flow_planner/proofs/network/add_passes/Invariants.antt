@@ -1,6 +1,5 @@
-use Rattle.std.proofs.Common.{length}
-use Rattle.flow_planner.specs.inner.Network.{IsFlowNetwork}
+use Rattle.flow_planner.specs.inner.Network.{IsPartBuilt}
 use Rattle.flow_planner.proofs.network.add_passes.Given as goal
 
 abbrev pub invariant-loop-slot : goal.invariant-loop-slot
-invariant-loop-slot l = IsFlowNetwork (length l.vertices) l.network
+invariant-loop-slot l = IsPartBuilt l.vertices l.start l.job l.slot l.network

@@ -1,6 +1,5 @@
-use Rattle.std.proofs.Common.{length}
-use Rattle.flow_planner.specs.inner.Network.{IsFlowNetwork}
+use Rattle.flow_planner.specs.inner.Network.{IsBuilt}
 use Rattle.flow_planner.proofs.network.network_of.Given as goal
 
 abbrev pub invariant-loop-job : goal.invariant-loop-job
-invariant-loop-job l = IsFlowNetwork (length l.vertices) l.network
+invariant-loop-job l = IsBuilt l.vertices l.start l.job l.network

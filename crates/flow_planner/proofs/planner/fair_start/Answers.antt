@@ -1,9 +1,0 @@
-use Rattle.std.proofs.Common.{length, ap, arith}
-use Rattle.path_planner.proofs.UnderWay.{length-graph-le}
-use Rattle.flow_planner.proofs.planner.fair_start.Goals as goal
-
-pub greatest-requires-clause-few : goal.greatest-requires-clause-few
-greatest-requires-clause-few c =
-    let few = length-graph-le c.args.graph.now c.vertices-vertices.ensures.within in
-    let same = ap length c.vertices-vertices.ensures.list in
-    omega arith
