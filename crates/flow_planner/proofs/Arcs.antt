@@ -11,7 +11,7 @@ use Rattle.plan_checker.proofs.Duality.{parent_at, amount_at}
 use Rattle.level_graphs.specs.declared.network.Arc.{Arc}
 use Rattle.level_graphs.specs.Arcs.{reverse_of, tail_of, head_of, room_at}
 use Rattle.level_graphs.specs.Flow.{sum_below as sum_of_arcs, room_out}
-use Rattle.flow_planner.specs.Network.{first_arc, Carries, CarriesJob, CarriesJobs}
+use Rattle.flow_planner.specs.Network.{first_arc, Carries, CarriesJobs}
 
 -- the arcs of a job lie before those of the jobs above it
 pub first_arc-le : (graph : List Vertex) (i n : ℕ) → i < n → first_arc graph i + 6 + 2 * length (vertex graph i).parents ≤ first_arc graph n

@@ -1,5 +1,5 @@
 -- With which charges a flow begins: with none, or with those of a claim that is wrong in its sum alone.
-use Rattle.std.proofs.Common.{◌≡◌, ◌≢◌, ℕ, ◌+◌, ◌<◌, ◌≤◌, List, [], Bool, true, false, cond, eqb, length, get_or, sum, sym, refl, ap, ◌∙◌, subst, inl, ⊎_elim, arith, Option, Some}
+use Rattle.std.proofs.Common.{◌≡◌, ◌≢◌, ℕ, ◌<◌, List, [], Bool, true, false, cond, eqb, length, get_or, sum, sym, refl, ap, ◌∙◌, subst, inl, ⊎_elim, arith, Option}
 use Rattle.std.specs.Prelude.{IsSomeAnd}
 use Rattle.std.proofs.lemmas.Bool.{cases_eq, cases_lt}
 use Rattle.plan_checker.specs.declared.vertex.Vertex.{Vertex}

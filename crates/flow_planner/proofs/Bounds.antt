@@ -1,7 +1,6 @@
 -- How much can flow: through a vertex no more than the vertices at and below it pay, which is less than what has no bound.
-use Rattle.std.proofs.Common.{◌≡◌, ℕ, zero, suc, ◌+◌, ◌*◌, ◌-◌, ◌<◌, ◌≤◌, List, Bool, true, false, cond, ltb, length, get_or, sym, refl, ap, ◌∙◌, inl, inr, ⊎_elim, arith, Option, None, Some, unwrap_or}
+use Rattle.std.proofs.Common.{◌≡◌, ℕ, zero, suc, ◌+◌, ◌*◌, ◌-◌, ◌<◌, ◌≤◌, List, Bool, true, false, cond, ltb, length, get_or, ap, ◌∙◌, inl, inr, ⊎_elim, arith, Option, None, Some, unwrap_or}
 use Rattle.std.specs.Prelude.{sum}
-use Rattle.std.specs.Option.{ForSome}
 use Rattle.std.proofs.lemmas.Bool.{lt-ltb, le-ltb, cond-true, cond-false, cases_eq, cases_lt}
 use Rattle.plan_checker.specs.declared.graph.TheConstants.{MOST_VERTICES}
 use Rattle.plan_checker.specs.declared.vertex.Vertex.{Vertex}

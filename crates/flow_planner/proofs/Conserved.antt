@@ -1,15 +1,15 @@
 -- What flows after more was sent: the charges that are read off the arcs are fair.
-use Rattle.std.proofs.Common.{◌≡◌, ◌≢◌, ℕ, ◌+◌, ◌*◌, ◌%◌, ◌<◌, ◌≤◌, List, Bool, true, false, cond, length, get_or, sum, refl, sym, ap, ◌∙◌, subst, arith, Option, None, Some, unwrap_or}
+use Rattle.std.proofs.Common.{◌≡◌, ℕ, ◌+◌, ◌*◌, ◌%◌, ◌≤◌, List, Bool, true, false, cond, length, sym, ap, ◌∙◌, arith, Option, None, Some, unwrap_or}
 use Rattle.std.specs.Option.{ForSome}
 use Rattle.plan_checker.specs.declared.vertex.Vertex.{Vertex}
 use Rattle.plan_checker.specs.declared.charges.Charges.{Charges}
 use Rattle.plan_checker.specs.Sums.{sum_below}
 use Rattle.plan_checker.specs.Graph.{vertex, IsGraph}
-use Rattle.plan_checker.specs.Charges.{passes, received, IsCounted, AreFair}
+use Rattle.plan_checker.specs.Charges.{passes, IsCounted, AreFair}
 use Rattle.plan_checker.proofs.SumsBelow.{sum_below_same, sum_below-add, sum_is_below}
 use Rattle.plan_checker.proofs.Duality.{amount_at}
 use Rattle.level_graphs.specs.declared.network.Arc.{Arc}
-use Rattle.level_graphs.specs.Arcs.{reverse_of, head_of, room_at}
+use Rattle.level_graphs.specs.Arcs.{reverse_of, room_at}
 use Rattle.level_graphs.specs.Flow.{IsFlow}
 use Rattle.flow_planner.specs.declared.network.TheConstants.{NO_BOUND}
 use Rattle.flow_planner.specs.Network.{first_arc, Carries, CarriesJob, CarriesJobs}

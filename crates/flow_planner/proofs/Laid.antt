@@ -1,15 +1,15 @@
 -- A network that grows by an arc and its reverse.
-use Rattle.std.proofs.Common.{◌≡◌, ◌≢◌, ℕ, ◌+◌, ◌*◌, ◌-◌, ◌%◌, ◌^◌, min, ◌<◌, ◌≤◌, List, cond, unwrap_or, length, get_or, refl, sym, ap, ◌∙◌, subst, inl, inr, ⊎_elim, arith}
+use Rattle.std.proofs.Common.{◌≡◌, ◌≢◌, ℕ, ◌+◌, ◌*◌, ◌-◌, ◌%◌, ◌^◌, ◌<◌, ◌≤◌, List, cond, unwrap_or, length, get_or, sym, ap, ◌∙◌, subst, ⊎_elim, arith}
 use Rattle.std.specs.Prelude.{Result, Ok, Err, OnOk, vec_len}
 use Rattle.std.proofs.lemmas.List.{get_or-set_other}
-use Rattle.std.proofs.lemmas.Bool.{cases_eq, cases_lt}
+use Rattle.std.proofs.lemmas.Bool.{cases_eq}
 use Rattle.plan_checker.specs.declared.vertex.Vertex.{Vertex}
 use Rattle.plan_checker.specs.declared.charges.Charges.{Charges}
 use Rattle.plan_checker.specs.Graph.{vertex}
 use Rattle.plan_checker.specs.Charges.{passes}
 use Rattle.level_graphs.specs.declared.network.Arc.{Arc}
 use Rattle.level_graphs.specs.declared.network.Network.{Network}
-use Rattle.level_graphs.specs.Arcs.{no_arc, arc_at, reverse_of, head_of, room_at, with_room, pushed, HasArcs, IsNetwork}
+use Rattle.level_graphs.specs.Arcs.{no_arc, reverse_of, room_at, with_room, pushed, HasArcs, IsNetwork}
 use Rattle.level_graphs.proofs.Pushed.{ends_pushed, room_along, room_back}
 use Rattle.flow_planner.specs.Network.{first_arc, Carries, CarriesJob, CarriesJobs}
 use Rattle.flow_planner.specs.declared.network.TheConstants.{NO_BOUND}

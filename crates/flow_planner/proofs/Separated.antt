@@ -1,5 +1,5 @@
 -- A level graph of the network of a graph that doesn't reach the sink shows the Least plan.
-use Rattle.std.proofs.Common.{◌≡◌, ◌≢◌, ℕ, zero, suc, ◌+◌, ◌-◌, ◌*◌, ◌%◌, ◌<◌, ◌≤◌, List, Bool, true, false, cond, length, get_or, sym, refl, ap, ◌∙◌, subst, ⊎_elim, arith, Option, None, Some, IsSome, unwrap_or}
+use Rattle.std.proofs.Common.{◌≡◌, ◌≢◌, ℕ, zero, suc, ◌+◌, ◌-◌, ◌*◌, ◌%◌, ◌<◌, ◌≤◌, List, Bool, true, false, cond, length, get_or, sym, refl, ap, ◌∙◌, subst, ⊎_elim, arith, Option, None, Some, unwrap_or}
 use Rattle.std.specs.Prelude.{IsSomeAnd}
 use Rattle.std.proofs.lemmas.Bool.{cases_eq, cases_lt}
 use Rattle.plan_checker.specs.declared.vertex.Vertex.{Vertex}
@@ -17,7 +17,7 @@ use Rattle.level_graphs.specs.Arcs.{tail_of, head_of, room_at, Leads, Reaches}
 use Rattle.level_graphs.specs.Levels.{IsLevelGraph}
 use Rattle.level_graphs.specs.Flow.{IsFlow, IsCut}
 use Rattle.flow_planner.specs.declared.network.TheConstants.{NO_BOUND}
-use Rattle.flow_planner.specs.Network.{first_arc, Carries, CarriesJob, CarriesJobs, Separates}
+use Rattle.flow_planner.specs.Network.{first_arc, Carries, CarriesJobs, Separates}
 use Rattle.flow_planner.proofs.Arcs.{HoldsOfJob, tail_is, back_is, each_arc}
 use Rattle.flow_planner.specs.inner.Network.{AreFlowing, AreShown}
 use Rattle.flow_planner.proofs.Conserved.{AreReadOff, carries_all, fair_after}

@@ -1,10 +1,9 @@
-use Rattle.std.proofs.Common.{◌≡◌, ◌+◌, ◌*◌, length, sym, ap, ◌∙◌, subst, arith}
+use Rattle.std.proofs.Common.{◌+◌, length, sym, ap, ◌∙◌, subst, arith}
 use Rattle.std.proofs.lemmas.List.{get_or_read}
 use Rattle.plan_checker.specs.declared.vertex.Vertex.{Vertex}
 use Rattle.plan_checker.specs.Graph.{no_vertex}
 use Rattle.level_graphs.specs.declared.network.Arc.{Arc}
 use Rattle.level_graphs.specs.Arcs.{room_at}
-use Rattle.flow_planner.specs.Network.{first_arc}
 use Rattle.flow_planner.specs.inner.Network.{AreFlows}
 use Rattle.flow_planner.proofs.Arcs.{first_arc-le, first_arc_more}
 use Rattle.flow_planner.proofs.Read.{flows_more}

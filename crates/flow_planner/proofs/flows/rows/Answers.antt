@@ -1,7 +1,7 @@
-use Rattle.std.proofs.Common.{◌≡◌, ◌+◌, ◌*◌, length, sym, ap, ◌∙◌, subst, arith}
+use Rattle.std.proofs.Common.{◌+◌, length, sym, ap, ◌∙◌, subst, arith}
 use Rattle.std.proofs.lemmas.List.{get_or_read}
 use Rattle.plan_checker.specs.declared.vertex.Vertex.{Vertex}
-use Rattle.plan_checker.specs.Graph.{vertex, no_vertex}
+use Rattle.plan_checker.specs.Graph.{no_vertex}
 use Rattle.flow_planner.specs.Network.{first_arc}
 use Rattle.flow_planner.specs.inner.Network.{IsRow, AreRows}
 use Rattle.flow_planner.proofs.Arcs.{first_arc-le, first_arc_more}

@@ -1,5 +1,3 @@
-use Rattle.std.proofs.Common.{◌≡◌, length, sym, ap, ◌∙◌, subst, arith}
-use Rattle.flow_planner.specs.inner.Network.{AreShown}
 use Rattle.flow_planner.proofs.Separated.{IsSent, sent_fair, sent_separates}
 use Rattle.flow_planner.proofs.greatest.greatest.Goals as goal
 

@@ -1,5 +1,4 @@
-use Rattle.std.proofs.Common.{length, sym, ap, subst, arith}
-use Rattle.flow_planner.specs.inner.Network.{AreFlowing}
+use Rattle.std.proofs.Common.{length, ap, arith}
 use Rattle.flow_planner.proofs.Bounds.{length-graph-le}
 use Rattle.flow_planner.proofs.Separated.{planned}
 use Rattle.flow_planner.proofs.planner.plan_again.Goals as goal
