@@ -50,7 +50,8 @@ pub record CarriesJobs (graph : List Vertex) (charges : Charges) (arcs : List Ar
 abbrev pub shown : ℕ → ℕ → Mark
 shown first second = if second == 0 then (if first == 0 then Prune else Load) else Compute
 
--- the charges flow in the network of the graph, a level graph of it doesn't reach the sink, and the plan is what it shows
+-- the charges flow in the network of the graph, the level graph of it doesn't reach the sink, and the plan is what it shows;
+-- there is one such level graph, since the charges tell the rooms of all arcs, and these the levels
 pub record Separates (graph : List Vertex) (charges : Charges) (marks : List Mark) : Type 0 where
   pub arcs : List Arc
   pub levels : List ℕ

@@ -1,6 +1,6 @@
 //! A greatest flow of a graph, and what its last level graph shows: the Least plan.
 
-ghost use Rattle.std.specs.Prelude.{◌≡◌, ◌+◌, ◌*◌, ◌<◌, ◌≤◌, ◌^◌, IfOk, length, slice_index, vec_len};
+ghost use Rattle.std.specs.Prelude.{◌≡◌, ◌+◌, ◌*◌, ◌<◌, ◌≤◌, ◌^◌, IfOk, OnOk, length, slice_index, vec_len};
 ghost use Rattle.plan_checker.specs.Graph.{IsGraph};
 ghost use Rattle.plan_checker.specs.Plan.{mark};
 ghost use Rattle.plan_checker.specs.Charges.{AreFair};
@@ -28,6 +28,7 @@ pub fn greatest(
     ensures fair { IfOk result (λ made. AreFair vertices.now made.1) }
     ensures separates { IfOk result (λ made. Separates vertices.now made.1 made.0.marks) }
     ensures phases { phases.new.count ≤ phases.old.count + 2 * length vertices.now + 1 }
+    ensures counted { OnOk result (phases.old.count < phases.new.count) }
 {
     let mut network = network_of(alloc, vertices, start)?;
     let levels = send_all(alloc, &mut network, phases)?;
@@ -53,8 +54,8 @@ fn mark_at(levels: &Levels, jobs: usize, job: usize) -> Mark
     requires nodes { vec_len levels.now.of ≡ 2 * jobs + 2 }
     requires few { jobs ≤ MOST_VERTICES }
     requires job { job < jobs }
-    ensures { result
-        ≡ shown (slice_index levels.now.of.items job) (slice_index levels.now.of.items (jobs + job)) }
+    ensures { result ≡ shown (slice_index levels.now.of.items job)
+        (slice_index levels.now.of.items (jobs + job)) }
 {
     if levels.at(jobs + job) != 0 {
         Mark::Compute

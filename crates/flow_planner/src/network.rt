@@ -121,8 +121,8 @@ fn lay(
     requires back { to ≡ network.old.source → from ≢ network.old.sink }
     requires amount { amount ≤ capacity }
     ensures network { OnOk result (IsNetwork network.new) }
-    ensures laid { OnOk result (IsLaid network.old.arcs.items network.new.arcs.items from to capacity
-        amount) }
+    ensures laid { OnOk result (IsLaid network.old.arcs.items network.new.arcs.items from to
+        capacity amount) }
     ensures nodes { vec_len network.new.last ≡ vec_len network.old.last }
     ensures source { network.new.source ≡ network.old.source }
     ensures sink { network.new.sink ≡ network.old.sink }

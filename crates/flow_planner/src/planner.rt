@@ -1,6 +1,6 @@
 //! The planner.
 
-ghost use Rattle.std.specs.Prelude.{List, ◌+◌, ◌*◌, ◌≤◌, ◌^◌, IfOk, IsTrue, length};
+ghost use Rattle.std.specs.Prelude.{List, ◌+◌, ◌*◌, ◌<◌, ◌≤◌, ◌^◌, IfOk, OnOk, IsTrue, length};
 ghost use Rattle.plan_checker.specs.Charges.{AreFair};
 ghost use Rattle.plan_checker.specs.declared.vertex.Vertex.{Vertex};
 ghost use Rattle.plan_checker.specs.Least.{IsLeast};
@@ -67,8 +67,9 @@ pub fn plan(alloc: Global, graph: &Graph) -> Result<(Plan, Charges), OutOfMemory
 
 /// The same, with a count of the phases: for each level graph that is built, `phases` counts one more.
 ///
-/// There are at most two for each vertex, and one: with each phase more arcs lie between the source and the sink, and no
-/// more of them than there are nodes. The last one doesn't reach the sink: the plan is what it separates.
+/// There is one at least, and at most two for each vertex and one: with each phase more arcs lie between the source and
+/// the sink, and no more of them than there are nodes. The last one doesn't reach the sink: the plan is what it
+/// separates.
 pub fn plan_counted(
     alloc: Global,
     graph: &Graph,
@@ -79,6 +80,7 @@ pub fn plan_counted(
     ensures certified { IfOk result (λ made. IsCertificate graph.now made.0.marks made.1) }
     ensures separated { IfOk result (λ made. Separates graph.now made.1 made.0.marks) }
     ensures phases { phases.new.count ≤ phases.old.count + 2 * length graph.now + 1 }
+    ensures counted { OnOk result (phases.old.count < phases.new.count) }
 {
     let start = nothing(alloc);
     Ok(greatest(alloc, graph.vertices(), &start, phases)?)

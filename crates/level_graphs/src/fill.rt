@@ -1,6 +1,6 @@
 //! All that can flow, by phases: a level graph, and all that goes down it.
 
-ghost use Rattle.std.specs.Prelude.{◌≡◌, ◌+◌, ◌≤◌, ◌^◌, IfOk, OnOk, vec_len};
+ghost use Rattle.std.specs.Prelude.{◌≡◌, ◌+◌, ◌<◌, ◌≤◌, ◌^◌, IfOk, OnOk, vec_len};
 ghost use Rattle.level_graphs.specs.Arcs.{IsNetwork};
 ghost use Rattle.level_graphs.specs.Levels.{IsLevelGraph};
 ghost use Rattle.level_graphs.specs.Flow.{IsCut, IsFlow};
@@ -31,6 +31,7 @@ pub fn send_all(
     ensures flow { IsFlow network.old.arcs.items network.new.arcs.items network.old.source
         network.old.sink }
     ensures phases { phases.new.count + 1 ≤ phases.old.count + vec_len network.old.last }
+    ensures counted { OnOk result (phases.old.count < phases.new.count) }
 {
     let nodes = network.last.len();
     let mut levels = Levels::new(alloc, nodes)?;

@@ -26,6 +26,7 @@ loop-blocking-init c =
       levels = omega arith;
       current = omega arith;
       path = omega arith;
+      counted = omega arith;
       few = omega (arith, network.last.ok.0);
       far = λ k r. let far = far_at_first network.arcs.items network.source network.sink good.ends good.apart k r in omega arith;
     }
@@ -51,6 +52,7 @@ loop-blocking-preserved c =
     let nodes = built.nodes in
     let phase = built.phase in
     let sizes = inv.levels in
+    let counted = inv.counted in
     record {
       network = told.network;
       last = told.nodes ∙ inv.last;
@@ -60,6 +62,7 @@ loop-blocking-preserved c =
       levels = nodes ∙ sizes;
       current = told.current ∙ inv.current;
       path = told.path ∙ inv.path;
+      counted = omega arith;
       few = omega arith;
       far = λ k r.
           let there : Reaches after.arcs.items before.source k before.sink = subst (λ s. Reaches after.arcs.items s k before.sink) told.source (subst (λ t. Reaches after.arcs.items after.source k t) told.sink r) in

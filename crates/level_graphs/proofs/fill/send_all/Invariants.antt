@@ -13,6 +13,7 @@ invariant-loop-blocking l = record {
   levels : vec_len l.levels.of ≡ vec_len l.initial.network.last;
   current : vec_len l.blocking.current ≡ vec_len l.initial.network.last;
   path : vec_len l.blocking.path ≡ vec_len l.initial.network.last;
+  counted : l.initial.phases.count ≤ l.phases.count;
   few : l.phases.count + 2 ≤ l.initial.phases.count + vec_len l.initial.network.last;
   far : (k : ℕ) → Reaches l.network.arcs.items l.network.source k l.network.sink → l.phases.count + 2 ≤ l.initial.phases.count + k;
 }
