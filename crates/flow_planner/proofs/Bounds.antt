@@ -45,7 +45,7 @@ sum_below-weighed : (v : ℕ) (f : ℕ → ℕ) (n : ℕ) → sum_below n (λ p.
 sum_below-weighed v f zero = omega arith
 sum_below-weighed v f (suc n) =
     ⊎_elim
-    (λ lt.
+    (λ (lt : n < v).
     let same = sum_below_same (suc n) (λ p. below v p * f p) f (λ p h. let one = below_one v p (omega arith) in rw one (omega arith)) in
     let part = sum_below-part (suc n) v f (omega arith) in
     omega arith)

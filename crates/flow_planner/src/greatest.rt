@@ -25,8 +25,8 @@ pub fn greatest(
     requires few { length vertices.now ≤ MOST_VERTICES }
     requires flowing { AreFlowing vertices.now start.now }
     requires room { phases.old.count ≤ 2 ^ 63 }
-    ensures fair { IfOk result (λ made. AreFair vertices.now made.1) }
-    ensures separates { IfOk result (λ made. Separates vertices.now made.1 made.0.marks) }
+    ensures made { IfOk result (λ made. AreFair vertices.now made.1
+        × Separates vertices.now made.1 made.0.marks) }
     ensures phases { phases.new.count ≤ phases.old.count + 2 * length vertices.now + 1 }
     ensures counted { OnOk result (phases.old.count < phases.new.count) }
 {

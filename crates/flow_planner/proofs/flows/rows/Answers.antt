@@ -1,4 +1,4 @@
-use Rattle.std.proofs.Common.{◌+◌, length, sym, ap, ◌∙◌, subst, arith}
+use Rattle.std.proofs.Common.{◌+◌, List, ℕ, length, sym, ap, ◌∙◌, subst, arith}
 use Rattle.std.proofs.lemmas.List.{get_or_read}
 use Rattle.plan_checker.specs.declared.vertex.Vertex.{Vertex}
 use Rattle.plan_checker.specs.Graph.{no_vertex}
@@ -33,6 +33,6 @@ loop-vertex-preserved c =
     let here = subst (λ k. IsRow arcs (first_arc graph i + 6) c.in_ok-row.field-0 k) m (subst (λ s. IsRow arcs (s + 6) c.in_ok-row.field-0 c.len-parents.result) first row) in
     let more = rows_more graph arcs c.loop-vertex.rows.items c.in_ok-row.field-0 i c.loop-vertex.invariant.rows here in
     record {
-      rows = subst (λ xs. AreRows graph arcs xs (i + 1)) (sym c.in_ok-push.ensures.items) more;
+      rows = subst (λ xs. AreRows graph arcs xs (i + 1)) (sym {A = List (List ℕ)} c.in_ok-push.ensures.items) more;
       first = omega arith;
     }

@@ -10,13 +10,13 @@ greatest-requires-clause-few c =
     omega arith
 
 pub returns-clause-least : goal.returns-clause-least
-returns-clause-least c = (planned c.args.graph.now c.vertices.result.now _ _ c.vertices.ensures.list c.vertices.ensures.within c.in_ok-greatest.ensures.fair c.in_ok-greatest.ensures.separates).least
+returns-clause-least c = (planned c.args.graph.now c.vertices.result.now _ _ c.vertices.ensures.list c.vertices.ensures.within c.in_ok-greatest.ensures.made.0 c.in_ok-greatest.ensures.made.1).least
 
 pub returns-clause-certified : goal.returns-clause-certified
-returns-clause-certified c = (planned c.args.graph.now c.vertices.result.now _ _ c.vertices.ensures.list c.vertices.ensures.within c.in_ok-greatest.ensures.fair c.in_ok-greatest.ensures.separates).certified
+returns-clause-certified c = (planned c.args.graph.now c.vertices.result.now _ _ c.vertices.ensures.list c.vertices.ensures.within c.in_ok-greatest.ensures.made.0 c.in_ok-greatest.ensures.made.1).certified
 
 pub returns-clause-separated : goal.returns-clause-separated
-returns-clause-separated c = (planned c.args.graph.now c.vertices.result.now _ _ c.vertices.ensures.list c.vertices.ensures.within c.in_ok-greatest.ensures.fair c.in_ok-greatest.ensures.separates).separated
+returns-clause-separated c = (planned c.args.graph.now c.vertices.result.now _ _ c.vertices.ensures.list c.vertices.ensures.within c.in_ok-greatest.ensures.made.0 c.in_ok-greatest.ensures.made.1).separated
 
 pub greatest-requires-clause-flowing : goal.greatest-requires-clause-flowing
 greatest-requires-clause-flowing c = c.nothing-start.ensures c.vertices.result.now
