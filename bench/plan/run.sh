@@ -11,13 +11,13 @@
 # The programs read the same graph in the same run; where their costs differ, it stops with status 1. Times are
 # milliseconds without reading, the least of fifteen runs; memory is the peak of a whole process in MiB, with reading. `again` plans
 # where nothing has changed, `changed` from the charges of the planning point before. The ratio is that of `plan` and the careful
-# flow, both with the building of their networks. It needs rt, g++, python3 and GNU time.
+# flow, both with the building of their networks. It needs rt, g++, python3 and GNU time. PROGRAM=PATH takes a program that is
+# built already.
 set -euo pipefail
 
 here=$(cd "$(dirname "$0")" && pwd)
 top=$(cd "$here/../.." && pwd)
-ours=$("$top/scripts/build" plan_bench)
-ours=$top/$ours
+ours=${PROGRAM:-$top/$("$top/scripts/build" plan_bench)}
 work=$(mktemp -d)
 trap 'rm -rf "$work"' EXIT
 
