@@ -1,7 +1,9 @@
 pub mod Caches
 pub mod Certificates
+pub mod Checked
 pub mod Demo
 pub mod Held
+pub mod Listed
 pub mod Paths
 pub mod Plans
 pub mod Runs

@@ -1,5 +1,5 @@
 -- What the program writes to its two writers for these words and this `PATH`, and the status that it then answers.
-use Rattle.std.specs.Prelude.{◌≡◌, ◌≢◌, ◌⊎◌, ⊤, ℕ, codes, List, Bool, false, Option, None, Some, IsSome}
+use Rattle.std.specs.Prelude.{◌≡◌, ◌≢◌, ◌⊎◌, ⊤, ℕ, codes, List, Bool, false, Option, None, Some}
 use Rattle.clap.specs.Words.{IsAmong, Text, fault_of}
 use Rattle.clap.specs.declared.error.ErrorKind.{ErrorKind}
 use Rattle.clap.specs.declared.error.ErrorKind.TheVariants.{DisplayHelp, DisplayVersion}
@@ -10,9 +10,11 @@ use Rattle.record_program.specs.declared.ending.Ending.{Ending}
 use Rattle.record_program.specs.declared.ending.Ending.TheVariants.{Input}
 use Rattle.program_words.specs.CommandLine.{Asks, command_line, wish_of}
 use Rattle.program_words.specs.RecordWords.{RecordWish, wish_of_record}
-use Rattle.program_words.specs.RunWords.{IsBudget, RunWish, wish_of_run}
+use Rattle.program_words.specs.RecordForm.{IsForm}
+use Rattle.program_words.specs.RunWords.{RunWish, wish_of_run}
 use Rattle.program_words.specs.declared.command.Choice.{Choice}
 use Rattle.program_words.specs.declared.command.Choice.TheVariants.{Demo, Check, Run, Plan, Record}
+use Rattle.program_words.specs.declared.record_form.RecordForm.TheVariants as forms
 use Rattle.program_words.specs.declared.savings.Savings.{Savings}
 use Rattle.program_words.specs.declared.shows.Shows.{Shows}
 use Rattle.program_words.specs.declared.shows.Shows.TheVariants.{Outputs}
@@ -24,7 +26,9 @@ use Rattle.end_words.specs.declared.exit.Exit.TheVariants.{Record as Listed, Fau
 use Rattle.end_words.specs.declared.exit.Fault.TheVariants as faults
 use Rattle.cwl_program.specs.Caches.{within}
 use Rattle.cwl_program.specs.Certificates.{IsCheck}
+use Rattle.cwl_program.specs.Checked.{IsCheckOn}
 use Rattle.cwl_program.specs.Demo.{IsDemoExit}
+use Rattle.cwl_program.specs.Listed.{IsLongOn}
 use Rattle.cwl_program.specs.Plans.{IsEndOfPlan}
 use Rattle.cwl_program.specs.Runs.{IsEndOfRun}
 use Rattle.cwl_program.specs.Showings.{IsEndOfShowing}
@@ -33,23 +37,31 @@ use Rattle.cwl_program.specs.Showings.{IsEndOfShowing}
 abbrev pub IsRecordFile : (name file : Text) → Type 0
 IsRecordFile name file = (file ≡ name) ⊎ (file ≡ within name (codes "jobs.db"))
 
+-- what is named is no cache: the name leads to nothing that can be looked at, or to no folder
+pub data IsNoCache : Exit → Type 0 where
+  absent : IsNoCache (Listed Input)
+  no_folder : IsNoCache (Fault faults.RecordWords)
+
 module _ {R K L : Type 0} (records : RecordsOf R K L) (rows : RowsOf K) (rt : R) where
   -- archives of a cache go until the others have at most so many bytes, and what is left is shown
   pub data IsTrim (cache : Text) (budget : ℕ) : Exit → Type 0 where
     trims : (ending : Ending) (lost : List Text) → record_program.IsEnding ending →
         records.trims rt (within cache (codes "jobs.db")) budget ending lost → IsTrim cache budget (Listed ending)
-    -- the name leads to nothing that can be looked at
-    absent : IsTrim cache budget (Listed Input)
-    -- or to no folder
-    no_cache : IsTrim cache budget (Fault faults.RecordWords)
+    untrimmed : {exit : Exit} → IsNoCache exit → IsTrim cache budget exit
+
+  -- it is said in what the files of a cache and its record differ
+  pub data IsCheckOf (cache : Text) (remove : Bool) : Exit → Type 0 where
+    checks : {ending : Ending} → IsCheckOn records rt cache remove ending → IsCheckOf cache remove (Listed ending)
+    unchecked : {exit : Exit} → IsNoCache exit → IsCheckOf cache remove exit
 
   -- the command of a record ends the program in its own way, on the file that is named, or on that of the cache which is named
   pub data IsRecordExit (wish : RecordWish) : Exit → Type 0 where
-    shows : (file : Text) (ending : Ending) → IsBudget wish.budget None → IsRecordFile wish.file file → record_program.IsEnding ending →
+    shows : (file : Text) (ending : Ending) → IsForm wish forms.Rows → IsRecordFile wish.file file → record_program.IsEnding ending →
         records.ends rt file wish.forget ending → IsRecordExit wish (Listed ending)
-    is_trim : {exit : Exit} (budget : ℕ) → IsBudget wish.budget (Some budget) → wish.forget ≡ None → IsTrim wish.file budget exit → IsRecordExit wish exit
-    -- rows are to be forgotten too
-    misused : (budget : ℕ) → IsBudget wish.budget (Some budget) → IsSome wish.forget → IsRecordExit wish (Fault faults.RecordWords)
+    lists : (file : Text) (ending : Ending) → IsForm wish forms.Long → IsRecordFile wish.file file → IsLongOn records rt file ending → IsRecordExit wish (Listed ending)
+    is_trim : {exit : Exit} (budget : ℕ) → IsForm wish (forms.Trim budget) → IsTrim wish.file budget exit → IsRecordExit wish exit
+    is_check : {exit : Exit} (remove : Bool) → IsForm wish (forms.Check remove) → IsCheckOf wish.file remove exit → IsRecordExit wish exit
+    misused : IsForm wish forms.Misused → IsRecordExit wish (Fault faults.RecordWords)
 
   -- a run, or what is shown in place of one, which leaves nothing
   abbrev pub IsEndOfWords : Shows → RunWish → (path : Text) → Exit → (left : Option Text) → Type 0

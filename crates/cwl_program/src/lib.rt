@@ -10,6 +10,7 @@
 
 mod caches;
 mod certificate;
+mod checked;
 mod demo;
 mod documents;
 mod entry;
@@ -19,6 +20,7 @@ mod hearing;
 mod held;
 mod inputs;
 mod jobs;
+mod listed;
 mod looks;
 mod notes;
 mod on_machine;

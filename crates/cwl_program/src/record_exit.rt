@@ -1,32 +1,40 @@
 //! The command `record`: on a file, or on the folder of a cache.
-ghost use Rattle.std.specs.Prelude.{IfOk, None, Some};
+ghost use Rattle.std.specs.Prelude.{IfOk, IfSome};
+ghost use Rattle.program_words.specs.RecordForm.{IsForm};
 ghost use Rattle.program_words.specs.RecordWords.{wish_of_record};
-ghost use Rattle.program_words.specs.RunWords.{IsBudget};
-ghost use Rattle.cwl_program.specs.Tells.{IsRecordExit, IsRecordFile, IsTrim};
+ghost use Rattle.program_words.specs.declared.record_form.RecordForm.TheVariants as forms;
+ghost use Rattle.cwl_program.specs.Listed.{IsLongOn};
+ghost use Rattle.cwl_program.specs.Tells.{IsCheckOf, IsNoCache, IsRecordExit, IsRecordFile, IsTrim};
 
 use crate::caches::{RECORD, within};
+use crate::checked::checked;
 use crate::forgetting::{remove_forgotten, remove_lost};
+use crate::listed::long_ending;
 use end_words::{Exit, Fault};
 use plain_data::Text;
 use process_machine::World;
-use program_words::{RecordWords, trim_of};
+use program_words::{RecordForm, RecordWords, form_of};
 use record_program::{Ending, Records};
 use std::alloc::AllocError;
 use std::{fs, io, mem};
 
 /// Does with a record what the words ask for.
+#[tactic(auto, using(crate::specs::Tells::misused))]
 pub fn exit_of_record<R: World + Records>(rt: &R, words: &RecordWords) -> Result<Exit, AllocError>
     ensures { IfOk result (IsRecordExit R.Records R.Kept.Record rt.now (wish_of_record words.now)) }
 {
-    match trim_of(words) {
-        None => exit_of_rows(rt, words),
-        Some(budget) => exit_of_trim(rt, words, budget),
+    match form_of(words) {
+        RecordForm::Rows => exit_of_rows(rt, words),
+        RecordForm::Long => exit_of_list(rt, words),
+        RecordForm::Trim(budget) => exit_of_trim(rt, words.file, budget),
+        RecordForm::Check(remove) => exit_of_check(rt, words.file, remove),
+        RecordForm::Misused => Ok(Exit::Fault(Fault::RecordWords)),
     }
 }
 
 #[tactic(auto, using(crate::specs::Tells::shows))]
 fn exit_of_rows<R: World + Records>(rt: &R, words: &RecordWords) -> Result<Exit, AllocError>
-    requires { IsBudget (wish_of_record words.now).budget None }
+    requires { IsForm (wish_of_record words.now) forms.Rows }
     ensures { IfOk result (IsRecordExit R.Records R.Kept.Record rt.now (wish_of_record words.now)) }
 {
     let file = record_at(rt, words.file)?;
@@ -36,30 +44,32 @@ fn exit_of_rows<R: World + Records>(rt: &R, words: &RecordWords) -> Result<Exit,
     Ok(Exit::Record(ending))
 }
 
-fn exit_of_trim<R: World + Records>(
-    rt: &R,
-    words: &RecordWords,
-    budget: u64,
-) -> Result<Exit, AllocError>
-    requires { IsBudget (wish_of_record words.now).budget (Some budget) }
+#[tactic(auto, using(crate::specs::Tells::lists))]
+fn exit_of_list<R: World + Records>(rt: &R, words: &RecordWords) -> Result<Exit, AllocError>
+    requires { IsForm (wish_of_record words.now) forms.Long }
     ensures { IfOk result (IsRecordExit R.Records R.Kept.Record rt.now (wish_of_record words.now)) }
 {
-    match words.forget {
-        Some(_) => Ok(Exit::Fault(Fault::RecordWords)),
-        None => exit_of_cache(rt, words.file, budget),
+    let file = record_at(rt, words.file)?;
+    Ok(Exit::Record(listed(rt, file.as_str())?))
+}
+
+#[tactic(auto, using(crate::specs::Listed::lists, crate::specs::Listed::unlisted))]
+fn listed<R: World + Records>(rt: &R, file: &str) -> Result<Ending, AllocError>
+    ensures { IfOk result (IsLongOn R.Records rt.now file.now) }
+{
+    match rt.list_record(file) {
+        Ok(listing) => long_ending(rt.alloc(), &listing),
+        Err(ending) => Ok(ending),
     }
 }
 
-// A file alone does not say which folder has the files.
-#[tactic(auto, using(crate::specs::Tells::absent, crate::specs::Tells::no_cache))]
-fn exit_of_cache<R: World + Records>(rt: &R, cache: &str, budget: u64) -> Result<Exit, AllocError>
+#[tactic(auto, using(crate::specs::Tells::untrimmed))]
+fn exit_of_trim<R: World + Records>(rt: &R, cache: &str, budget: u64) -> Result<Exit, AllocError>
     ensures { IfOk result (IsTrim R.Records R.Kept.Record rt.now cache.now budget) }
 {
-    match fs::metadata(rt, cache) {
-        Ok(metadata) if metadata.is_dir() => trimmed(rt, cache, budget),
-        Ok(_) => Ok(Exit::Fault(Fault::RecordWords)),
-        Err(error) if error.kind() == io::ErrorKind::OutOfMemory => Err(AllocError),
-        Err(_) => Ok(Exit::Record(Ending::Input)),
+    match no_cache(rt, cache)? {
+        Some(exit) => Ok(exit),
+        None => trimmed(rt, cache, budget),
     }
 }
 
@@ -73,6 +83,29 @@ fn trimmed<R: World + Records>(rt: &R, cache: &str, budget: u64) -> Result<Exit,
     let _removed = remove_lost(rt, cache, lost.as_slice());
     mem::drop(lost);
     Ok(Exit::Record(ending))
+}
+
+#[tactic(auto, using(crate::specs::Tells::unchecked, crate::specs::Tells::checks))]
+fn exit_of_check<R: World + Records>(rt: &R, cache: &str, remove: bool) -> Result<Exit, AllocError>
+    ensures { IfOk result (IsCheckOf R.Records R.Kept.Record rt.now cache.now remove) }
+{
+    match no_cache(rt, cache)? {
+        Some(exit) => Ok(exit),
+        None => Ok(Exit::Record(checked(rt, cache, remove)?)),
+    }
+}
+
+// Why a name is no cache's, if it is none. A file alone does not say which folder has the files.
+#[tactic(auto, using(crate::specs::Tells::absent, crate::specs::Tells::no_folder))]
+fn no_cache<R: World>(rt: &R, cache: &str) -> Result<Option<Exit>, AllocError>
+    ensures { IfOk result (λ exit. IfSome exit IsNoCache) }
+{
+    match fs::metadata(rt, cache) {
+        Ok(metadata) if metadata.is_dir() => Ok(None),
+        Ok(_) => Ok(Some(Exit::Fault(Fault::RecordWords))),
+        Err(error) if error.kind() == io::ErrorKind::OutOfMemory => Err(AllocError),
+        Err(_) => Ok(Some(Exit::Record(Ending::Input))),
+    }
 }
 
 /// The file of the record that is named: of a folder, that of the cache which it is.

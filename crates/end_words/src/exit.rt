@@ -79,7 +79,7 @@ pub enum Fault {
     Unopened(Text, RecordFault),
     /// The words name a cache beside a record or an archive.
     Words,
-    /// The words of `record` don't stand together, or name no cache.
+    /// The words of `record` can't be used with one another, or name no cache.
     RecordWords,
     /// The name of the current folder can't be found.
     Folder,

@@ -404,7 +404,7 @@ fn fault_words(alloc: Global, fault: &Fault) -> Result<String, AllocError> {
         }
         Fault::RecordWords => String::from_str(
             alloc,
-            "`--budget` needs the folder of a cache, and does not stand beside `--forget`",
+            "`--budget` and `--check` need the folder of a cache; `--forget`, `--budget`, `--long` and `--check` can't be used with one another, and `--remove` only with `--check`",
         ),
         Fault::Folder => {
             String::from_str(alloc, "the name of the current folder can't be found")

@@ -1,11 +1,14 @@
+pub mod CheckLines
 pub mod CommandLine
 pub mod Flags
 pub mod JobLines
 pub mod JobObjects
 pub mod JsonWord
+pub mod KeyWords
 pub mod Launcher
 pub mod PlanWords
 pub mod Progress
+pub mod RecordForm
 pub mod RecordWords
 pub mod Reuse
 pub mod RunWords

@@ -7,17 +7,21 @@
 //! - `Teller` writes the lines of `--verbose`, `--progress` and `--progress=json`, each only if it is asked for; `reason_for` says why a job
 //!   is computed.
 //! - `savings_line` says what became of the jobs of a run, how long it took, and what it saved.
+//! - `key_words` says what a row of a record is of, and `check_lines` in what a cache's files and its record differ.
 //! - `visible` shows foreign text with a code for what a terminal would hide.
 #![tactic(auto)]
 
+mod check_told;
 mod command;
 mod flags;
 mod json_word;
+mod key_shown;
 mod launcher;
 mod laws;
 mod objects;
 mod planning;
 mod progress;
+mod record_form;
 mod record_words;
 mod reuse;
 mod run_words;
@@ -29,13 +33,16 @@ mod telling;
 mod terminal;
 mod version;
 
+pub use check_told::{CheckNames, check_lines};
 pub use command::{Choice, choice_of};
 pub use json_word::name_json_word;
+pub use key_shown::key_words;
 pub use launcher::launcher_of;
 pub use laws::{line_is_one_command, text_is_one_word};
 pub use planning::PlanWords;
 pub use progress::{Counts, Longest};
-pub use record_words::{RecordWords, trim_of};
+pub use record_form::{RecordForm, form_of};
+pub use record_words::RecordWords;
 pub use reuse::{Recalled, Why, reason_for};
 pub use run_words::{RunWords, budget_of, load_base_of, load_rate_of, retries_of, slots_of};
 pub use savings::{Savings, savings_line};

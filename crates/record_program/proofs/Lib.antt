@@ -1,3 +1,4 @@
+pub mod AmongNames
 pub mod EndsOfRows
 pub mod ForGood
 pub mod GoneForGood

@@ -1,6 +1,8 @@
 pub mod Head
 pub mod Views
 pub mod Lines
+pub mod Listing
+pub mod Checking
 pub mod Endings
 pub mod Forgetting
 pub mod Trimming

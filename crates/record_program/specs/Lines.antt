@@ -17,11 +17,14 @@ abbrev pub spaced : ℕ → List ℕ
 spaced number = codes " " ++ decimal number
 
 abbrev pub kept_word : Bool → List ℕ
-kept_word archived = if archived then codes " yes\n" else codes " no\n"
+kept_word archived = if archived then codes " yes" else codes " no"
 
 -- `HEX COST BYTES yes`, or `no` where no archive is kept
+abbrev pub facts_of : Row → List ℕ
+facts_of row = key_sum row.key ++ spaced row.cost ++ spaced (bytes_of row.files) ++ kept_word row.archived
+
 abbrev pub line_of : Row → List ℕ
-line_of row = key_sum row.key ++ spaced row.cost ++ spaced (bytes_of row.files) ++ kept_word row.archived
+line_of row = facts_of row ++ codes "\n"
 
 -- the key has a SHA-1 of this text
 abbrev pub has_sum : List ℕ → List ℕ → Bool

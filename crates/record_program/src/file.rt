@@ -1,16 +1,19 @@
 //! The record of a file.
-ghost use Rattle.std.specs.Prelude.{◌≡◌, ℕ, false, List, [], Option, None, IfOk, option_map};
+ghost use Rattle.std.specs.Prelude.{◌≡◌, ℕ, false, List, [], Option, None, IfOk, IfErr, option_map};
 ghost use Rattle.sqlite.specs.Files.{file_state};
 ghost use Rattle.record_program.specs.Closing.{ForgetsForGood, Leaves};
 ghost use Rattle.record_program.specs.Endings.{IsEnding, ShowsNone, Says};
+ghost use Rattle.record_program.specs.Listing.{ListsOn};
 ghost use Rattle.record_program.specs.Opened.{IsOf, IsRecordOf, IsShown, IsForgotten, EndsWith, EndsOn, TrimsOn};
 ghost use Rattle.record_program.specs.declared.ending.Ending.{Ending};
+ghost use Rattle.record_program.specs.declared.listing.Listing.{Listing};
 
 use crate::closing::{forgotten_for_good, left_of};
 use crate::databases::Databases;
 use crate::ending::Ending;
 use crate::held::trimmed_on;
 use crate::kept::{FileLeft, FileRecord};
+use crate::listing::{Listing, listed_on};
 use crate::look::{Look, looked, looked_if_there, remove_log};
 use crate::store::shown_in;
 use crate::tables::as_record;
@@ -45,6 +48,9 @@ pub trait Records {
     /// that went for good.
     ghost trims: { Self → List ℕ → ℕ → Ending → List (List ℕ) → Type 0 };
 
+    /// The record of the file of this name has these rows and archives.
+    ghost lists: { Self → List ℕ → Listing → Type 0 };
+
     /// A record of which this is left holds what it held, in its file or in its file and its log.
     ghost leaves: { Self.Kept → Self.Left → Type 0 };
 
@@ -59,6 +65,12 @@ pub trait Records {
     fn trim_record(&self, file: &str, budget: u64) -> (Ending, Items<Text>)
         ensures ending { IsEnding result.0 }
         ensures whose { trims self.now file.now budget result.0 result.1 };
+
+    /// Lists the rows and the archives of a file's record. One of version 1 is made one of version 2, and else nothing is changed. If there is
+    /// none, or not all of it reads, gives how that ends the command.
+    fn list_record(&self, file: &str) -> Result<Listing, Ending>
+        ensures whose { IfOk result (lists self.now file.now) }
+        ensures err { IfErr result ShowsNone };
 
     /// Opens the record of a file. The archives may have together at most as many bytes as the budget, if there is one. Makes a record
     /// where nothing is there, and in a database that has none of its tables, and one of version 2 of one of version 1. What is
@@ -84,6 +96,8 @@ impl Records for HostRuntime {
 
     ghost trims = { λ rt file budget ending lost. TrimsOn ⟦<File as Disk>⟧ (⟦<HostRuntime as Databases>⟧.opens rt file) budget ending lost };
 
+    ghost lists = { λ rt file listing. ListsOn ⟦<File as Disk>⟧ (⟦<HostRuntime as Databases>⟧.opens rt file) listing };
+
     ghost leaves = { λ kept left. Leaves ⟦<File as Disk>⟧ kept.rows.conn left.left };
 
     fn record_ending(&self, file: &str, forget: Option<&str>) -> Ending {
@@ -92,6 +106,10 @@ impl Records for HostRuntime {
 
     fn trim_record(&self, file: &str, budget: u64) -> (Ending, Items<Text>) {
         trimmed_on(self, file, budget)
+    }
+
+    fn list_record(&self, file: &str) -> Result<Listing, Ending> {
+        listed_on(self, file)
     }
 
     fn open_record(&self, file: &str, budget: Option<u64>) -> Result<FileRecord, RecordFault> {

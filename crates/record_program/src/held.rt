@@ -47,7 +47,7 @@ fn trimmed_in<D: Disk + Drop>(
 }
 
 /// Opens the record of a file, also one of version 1, which is made one of version 2. Gives the ending where the file holds none.
-fn held_record<R: AllocGlobal + Folder + Databases>(
+pub fn held_record<R: AllocGlobal + Folder + Databases>(
     rt: &R,
     file: &str,
 ) -> Result<JobRecord<FileStore<R::Medium>>, Ending>

@@ -9,6 +9,7 @@
 //! (`specs/Head.antt`); before a row is read, `tables` looks whether both tables are tables.
 #![tactic(auto)]
 
+mod checking;
 mod closing;
 mod databases;
 mod ending;
@@ -17,13 +18,16 @@ mod head;
 mod held;
 mod kept;
 mod keys;
+mod laws;
 mod lines;
+mod listing;
 mod look;
 mod store;
 mod tables;
 mod trimming;
 mod words;
 
+pub use checking::{Difference, compared};
 pub use closing::{forgotten_for_good, trimmed_for_good};
 pub use databases::Databases;
 pub use ending::{Ending, unclosed};
@@ -31,7 +35,9 @@ pub use file::{Records, main_run};
 pub use head::{Head, LogHead, head_of, is_bare_log, is_too_long, log_of, refusal_of};
 pub use kept::{FileLeft, FileRecord};
 pub use keys::keys_with;
-pub use lines::{rows_text, sum_of_key};
+pub use laws::unknown_spares_archives;
+pub use lines::{facts_of, rows_text, sum_of_key};
+pub use listing::{Listing, listed};
 pub use store::{ended, forgotten, shown};
 pub use trimming::{lost_keys, trimmed};
 pub use words::fault_words;

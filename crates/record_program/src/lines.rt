@@ -1,6 +1,6 @@
 //! The lines that rows are shown as.
 ghost use Rattle.std.specs.Prelude.{◌≡◌, ◌++◌, IfOk, OnOk, string_bytes, flat_map};
-ghost use Rattle.record_program.specs.Lines.{bytes_of, kept_word, key_sum, spaced, line_of};
+ghost use Rattle.record_program.specs.Lines.{bytes_of, kept_word, key_sum, spaced, facts_of, line_of};
 
 use job_rows::Row;
 use plain_data::Text;
@@ -19,9 +19,17 @@ pub fn rows_text(alloc: Global, rows: &[Row]) -> Result<Text, AllocError>
     Ok(Text::from_string(text))
 }
 
-// A row's line: the sum of its key, its cost, the bytes of its files, and whether an archive is kept.
 fn line(alloc: Global, row: &Row) -> Result<String, AllocError>
     ensures { IfOk result (λ text. string_bytes text ≡ line_of row.now) }
+{
+    let mut text = facts_of(alloc, row)?;
+    text.push_str("\n")?;
+    Ok(text)
+}
+
+/// Returns a row's line without its end: the sum of its key, its cost, the bytes of its files, and whether an archive is kept.
+pub fn facts_of(alloc: Global, row: &Row) -> Result<String, AllocError>
+    ensures { IfOk result (λ text. string_bytes text ≡ facts_of row.now) }
 {
     let mut text = sum_of_key(alloc, row.key.as_str())?;
     push_number(alloc, &mut text, row.cost)?;
@@ -47,7 +55,7 @@ fn spaced(alloc: Global, number: u64) -> Result<String, AllocError>
 fn kept_word(archived: bool) -> &'static str
     ensures { result.now ≡ kept_word archived }
 {
-    if archived { " yes\n" } else { " no\n" }
+    if archived { " yes" } else { " no" }
 }
 
 /// Returns the SHA-1 of a key, which is also the name of its folder in the archive.

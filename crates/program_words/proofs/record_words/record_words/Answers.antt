@@ -14,4 +14,4 @@ returns c =
     c.get_str-2.ensures ∙ first_value-rows found (codes "forget") in
     let budget : option_map (λ s. s.now) c.get_str-3.result ≡ first_of (codes "budget") (rows_of found) =
     c.get_str-3.ensures ∙ first_value-rows found (codes "budget") in
-    rw (file, forget, budget, c.is_wanted.ensures) refl
+    rw (file, forget, budget, c.is_given.ensures, c.is_given-2.ensures, c.is_given-3.ensures, c.is_wanted.ensures) refl
