@@ -1,6 +1,7 @@
 #!/bin/bash
 # What a second run costs if nothing has changed: N jobs that each copy a file of 1 kB and one that joins the copies, over a cache that has them all. It delivers
-# the joined file, and then each copy too, into a folder that has them already and into an empty one, on a disk and in memory: each beside `make` and
+# the joined file, and then each copy too, into a folder that has them already and into an empty one, on a disk and in memory (`--prefer-kept`: a copy that
+# took a millisecond would be made again): each beside `make` and
 # `ninja` with nothing to do, and cwltool's `--cachedir` where that is installed. Medians of 5, or of TIMES, and their ratios.
 # usage: again.sh [FOLDER]      the folder on the disk; without one /var/tmp, if that is on ext4
 # Needs bash, python3, make and rt, and /dev/shm for files in memory. PROGRAM=PATH takes a program that is built already; SIZES names other numbers of jobs.
@@ -49,7 +50,7 @@ with open("again.ninja", "w") as it:
 END
 }
 
-ours() { "$program" run --slots 4 --cache kept --outdir out again.json again.inputs; }
+ours() { "$program" run --slots 4 --prefer-kept --cache kept --outdir out again.json again.inputs; }
 cached() { cwltool --quiet --parallel --cachedir cache --outdir cached again.json again.inputs 2>/dev/null; }
 compared() { cat given/x* | cmp - "$1/joined" || { echo "$1/joined is not what it has to be"; exit 1; }; }
 
