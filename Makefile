@@ -1,5 +1,5 @@
 # Needs bash, make, python3 (3.8 or later) and the Rattle toolchain, whose command is rt.
-.PHONY: build install package help demo try examples check rows since new test gate-cost wrong-bodies
+.PHONY: build install package help demo try examples check rows since new test gate gate-cost wrong-bodies
 
 # Proves what this computer has not kept, builds the program, and prints its path.
 build:
@@ -22,11 +22,13 @@ help:
 	@echo "make try           run the program on your own files, unproved: ARGS=\"run DOCUMENT INPUTS\" has its words (5 minutes the first time, then a second)"
 	@echo "make examples      run each of examples/ by the unproved program, and compare its answer (as make try)"
 	@echo "make check         prove a crate and those below it over kept work: NAME=crate (10 seconds to minutes)"
-	@echo "make rows          answer a crate's worked rows by the unproved program, and show what differs: NAME=value_rows"
+	@echo "make rows          answer a crate's worked rows by the unproved program, and show what differs: NAME=test_values"
 	@echo "make since         which crates changed since a revision, what stands above them, what to run: REV=commit (a second)"
 	@echo "make new           begin a crate: NAME=name, ON=\"crate ..\" are those that it stands on (a second)"
-	@echo "make test          the whole gate: every proof that is not kept, the tests, the programs, the wrong bodies in must-fail/, the importer,"
-	@echo "                   the examples, a package (minutes over kept proofs, two to three hours from nothing: docs/work/gate.md)"
+	@echo "make test          each row, importer test, example and mistake, a package, the scripts, all with the program compiled with checks, UNPROVED"
+	@echo "                   (about 15 minutes from nothing, 10 if the program is kept)"
+	@echo "make gate          the whole gate: every proof that is not kept, the wrong bodies in must-fail/, the programs, and what make test runs with the"
+	@echo "                   proved program (minutes over kept proofs, about two and a quarter hours from nothing: docs/work/gate.md)"
 	@echo "make gate-cost     what the last gate cost, by crate and part (a second)"
 	@echo "make wrong-bodies  try all wrong bodies over what \`rt check\` keeps (several hours); NAME=crate: those of one crate (3 to 40 minutes), NAME=crate/edit: one"
 
@@ -52,7 +54,12 @@ since:
 new:
 	@scripts/new "$(NAME)" $(ON)
 
+# Nothing is proved by this.
 test:
+	@scripts/test
+
+# Proves everything, and runs the same tests with the proved program.
+gate:
 	@scripts/gate
 
 gate-cost:

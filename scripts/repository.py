@@ -59,10 +59,8 @@ def text_of(file):
 
 
 def test_crates():
-    """Returns the crates that are tests or benches: those of scripts/test-crates.txt, and no others."""
-    file = f"{TOP}/scripts/test-crates.txt"
-    rows = text_of(file).splitlines() if os.path.isfile(file) else []
-    return {it.strip() for it in rows if it.strip() and not it.startswith("#")}
+    """Returns the crates that are tests, as their names say: `tests`, and those that begin with `test_`."""
+    return {it for it in crates() if it == "tests" or it.startswith("test_")}
 
 
 def lines(name):

@@ -172,15 +172,16 @@ def tried_all(one, name, step):
 
 def main(*words):
     step, (program, *wanted) = (int(words[1]), words[2:]) if words[0] == "--every" else (1, words)
-    folder, failed = os.path.realpath(tempfile.mkdtemp(dir="/dev/shm" if os.path.isdir("/dev/shm") else None)), 0
+    folder, failed = os.path.realpath(tempfile.mkdtemp(dir="/dev/shm" if os.path.isdir("/dev/shm") else None)), []
     try:
         refuser = f"{folder}/malloc.so"
         subprocess.run(["cc", "-shared", "-fPIC", "-O1", "-o", refuser, f"{HERE}/malloc.c"], check=True)
         for number, run in enumerate(RUNS):
             if not wanted or any(word in run[0] for word in wanted):
-                failed += tried_all(Scene(f"{folder}/{number}", os.path.abspath(program), refuser, run), run[0], step)
-        print(f"not as it has to be: {failed}")
-        return 1 if failed else 0
+                failed.append(tried_all(Scene(f"{folder}/{number}", os.path.abspath(program), refuser, run), run[0], step))
+        print(f"not as it has to be: {sum(failed)}")
+        print(f"memory: {failed.count(0)} passed, {len(failed) - failed.count(0)} failed")
+        return 1 if sum(failed) else 0
     finally:
         shutil.rmtree(folder, ignore_errors=True)
 

@@ -84,7 +84,7 @@ def texts():
         value = json.loads(content_of(path))
         if "cwlVersion" in value:
             pairs.append((value, {"text": {"class": "File", "location": "given"}, "texts": [{"class": "File", "location": "given"}], "loud": True}))
-    plans = [content_of(it) for it in sorted(glob.glob(f"{TOP}/examples/*/*.plan") + glob.glob(f"{TOP}/crates/run_rows/data/*.txt") + glob.glob(f"{TOP}/tests/program/data/*.txt"))]
+    plans = [content_of(it) for it in sorted(glob.glob(f"{TOP}/examples/*/*.plan") + glob.glob(f"{TOP}/crates/test_runs/data/*.txt") + glob.glob(f"{TOP}/tests/program/data/*.txt"))]
     whole = [it for it in plans if it.startswith(b"cwl-plan 1\n") and it.count(b"\n") > 3]
     return [(json.dumps(it).encode(), json.dumps(inputs).encode()) for it, inputs in pairs], whole
 
@@ -128,7 +128,7 @@ class Case:
         put(f"{self.folder}/hello", json.dumps(HELLO).encode())
         put(f"{self.folder}/abc", b'{"t":"abc"}')
         write_record(f"{self.top}/jobs.db")
-        self.databases = [f"{self.top}/jobs.db", *sorted(glob.glob(f"{TOP}/crates/run_rows/data/*.db") + glob.glob(f"{TOP}/tests/program/data/*.db"))]
+        self.databases = [f"{self.top}/jobs.db", *sorted(glob.glob(f"{TOP}/crates/test_runs/data/*.db") + glob.glob(f"{TOP}/tests/program/data/*.db"))]
         self.pages = [content_of(it) for it in self.databases]
         resource.setrlimit(resource.RLIMIT_FSIZE, (64 << 20, 64 << 20))
         resource.setrlimit(resource.RLIMIT_CORE, (0, 0))

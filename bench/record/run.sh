@@ -4,12 +4,12 @@
 # medians of five, each program once in turn, in microseconds, and the ratios. Of opening also how much longer it takes than the crate `sqlite`
 # takes to open the file as a database: at most a tenth is wanted. And of a record whose rows (ARCHIVED, 100,000) are all archived what 1,000 puts take with no budget,
 # with one that is never met, and with one that each put meets, so that one archive goes for each; and what 1,000 touches take.
-# Needs bash, python3 and rt, and 2 GB where BENCH_FOLDER is (this folder, where it is not given). PROGRAM=PATH takes a program of record_rows that is
+# Needs bash, python3 and rt, and 2 GB where BENCH_FOLDER is (this folder, where it is not given). PROGRAM=PATH takes a program of the crate tests that is
 # built already; ROWS names other numbers of rows, also none (ROWS=" ").
 set -euo pipefail
 here=$(cd "$(dirname "$0")" && pwd)
 top=$(cd "$here/../.." && pwd)
-program=${PROGRAM:-$top/$("$top/scripts/build" library_rows 2>/dev/null)}
+program=${PROGRAM:-$top/$("$top/scripts/build" tests 2>/dev/null)}
 [ -x "$program" ] || { echo "there is no program: make says why"; exit 1; }
 folder=$(mktemp -d -p "${BENCH_FOLDER:-$here}")
 trap 'rm -rf "$folder"' EXIT

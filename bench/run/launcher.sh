@@ -1,16 +1,17 @@
 #!/bin/bash
 # What a launcher costs a run: N trivial jobs side by side, four at once, without a launcher, by `env`, and by `setpriv` where that is installed. Where Slurm
-# answers, 100 of them by `srun -n1` beside `srun -n1` in a loop of a shell, four at once. Medians of 3, or of TIMES, their ratios, and the
-# milliseconds that the launcher adds to a job.
-# usage: launcher.sh [FOLDER]      a folder for the files, in memory without one; by Slurm all nodes have to see it
-# Needs bash, python3 and rt. PROGRAM=PATH takes a program that is built already; SIZES names other numbers of jobs, and SCHEDULED that of those by Slurm.
+# answers, or is installed and can be started (tests/slurm/start), 1,000 of them by `srun`, 32 at once, beside `srun` in a loop of a shell with as many
+# at once: a job for each, and a step for each in one allocation. Medians of 3, or of TIMES, their ratios, and the milliseconds that the launcher adds to a job.
+# usage: launcher.sh [FOLDER]      a folder for the files, in memory without one; by a Slurm that answers all nodes have to see it
+# Needs bash, python3 and rt. PROGRAM=PATH takes a program that is built already; SIZES names other numbers of jobs, SCHEDULED that of those by Slurm, 0 for
+# none, and SLOTS how many of these are there at once.
 set -euo pipefail
 top=$(cd "$(dirname "$0")/../.." && pwd)
 program=${PROGRAM:-$top/$("$top/scripts/build" 2>/dev/null)}
 [ -x "$program" ] || { echo "there is no program: make says why"; exit 1; }
 . "$top/bench/run/times.sh"
 here=$(mktemp -d "${1:-/dev/shm}/deparohi-XXXXXX")
-trap 'rm -rf "$here"' EXIT
+trap 'trap "" INT TERM HUP; [ ! -d "$here/slurm" ] || "$top/tests/slurm/stop" "$here/slurm"; rm -rf "$here"' EXIT
 cd "$here"
 
 # Writes the document and the inputs of $1 jobs, and the text that their files have together.
@@ -33,8 +34,8 @@ with open("expected", "w") as it:
 END
 }
 
-ours() { "$program" run --slots 4 --outdir made "$@" launcher.json launcher.inputs; }
-looped() { seq -f 'x%06g' 0 $(($1 - 1)) | xargs -P 4 -I % sh -c 'srun -Q -n1 printf % > made/%'; }
+ours() { "$program" run --slots "$slots" --outdir made "$@" launcher.json launcher.inputs; }
+looped() { seq -f 'x%06g' 0 $((n - 1)) | xargs -P "$slots" -I % sh -c './launch printf % > made/%'; }
 compared() { cat made/x* | cmp expected - || { echo "the files are not what they have to be"; exit 1; }; }
 fresh='rm -rf made && mkdir made'
 
@@ -46,6 +47,20 @@ launched() {
     echo "    $1: $(millis "$run") ms, ratio $(ratio "$run" "$bare"), $(millis $(((run - bare) / n))) ms a job"
 }
 
+# Measures a run and a loop of $n jobs by `srun` with the options $2, which are called $1.
+scheduled() {
+    local loop run
+    printf '#!/bin/sh\nexport SLURM_CONF=%s\nexec srun -Q -n1 %s "$@"\n' "${SLURM_CONF-}" "$2" > launch
+    [ -n "${SLURM_CONF-}" ] || sed -i '/SLURM_CONF/d' launch
+    chmod +x launch
+    loop=$(median "$fresh" looped)
+    compared
+    run=$(median "$fresh" ours --launcher "$here/launch")
+    compared
+    echo "$n $1, $slots at once: $(millis "$run") ms; a loop of a shell $(millis "$loop") ms, ratio $(ratio "$run" "$loop"): $(goal "$run" "$loop" 1.1)"
+}
+
+slots=4
 for n in ${SIZES:-1000}; do
     written "$n"
     bare=$(median "$fresh" ours)
@@ -55,14 +70,14 @@ for n in ${SIZES:-1000}; do
     ! command -v setpriv >/dev/null || launched 'setpriv --pdeathsig KILL'
 done
 
+n=${SCHEDULED-1000} slots=${SLOTS-32}
+[ "$n" != 0 ] || exit 0
 if ! sinfo >/dev/null 2>&1; then
-    echo "by Slurm: passed over, no sinfo answers"
-    exit
+    why=$("$top/tests/slurm/start" "$here/slurm" 2>&1) || { echo "by Slurm: passed over, none answers, and it can't be started: $why"; exit 0; }
+    export SLURM_CONF=$here/slurm/slurm.conf DEPAROHI_SLURM=$here/slurm
 fi
-n=${SCHEDULED:-100}
 written "$n"
-loop=$(median "$fresh" looped "$n")
-compared
-run=$(median "$fresh" ours --launcher 'srun -Q -n1')
-compared
-echo "$n jobs by srun: $(millis "$run") ms; a loop of a shell $(millis "$loop") ms, ratio $(ratio "$run" "$loop"): $(goal "$run" "$loop" 1.1)"
+scheduled "jobs by srun" ''
+salloc -Q --no-shell -n "$slots" -J deparohi-bench
+scheduled "steps of one allocation" "--jobid=$(squeue -h -n deparohi-bench -o %i | head -n 1) --exact"
+scancel -n deparohi-bench

@@ -1,4 +1,4 @@
-"""Asks the program of run_rows how long the machine takes over runs of many jobs, and prints two tables.
+"""Asks the program of test_runs how long the machine takes over runs of many jobs, and prints two tables.
 
 usage: machine.py PROGRAM [jobs|growth]      one of the tables
 

@@ -6,7 +6,7 @@ set -euo pipefail
 here=$(cd "$(dirname "$0")" && pwd)
 if [ -z "${PROGRAM-}" ]; then
     top=$(cd "$here/../.." && pwd)
-    PROGRAM=$("$top/scripts/build" run_rows)
+    PROGRAM=$("$top/scripts/build" test_runs)
     PROGRAM=$top/$PROGRAM
 fi
 python3 "$here/machine.py" "$PROGRAM" "$@"

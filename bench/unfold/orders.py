@@ -5,7 +5,7 @@ usage: orders.py SEED LEVELS WORKFLOWS ROOM STDIN STDOUT
 
 LEVELS is how many orders there are in which the jobs of a workflow of three levels end, each of them scattered, ten orders a row.
 WORKFLOWS is how many generated workflows there are, of at most sixty jobs each, whose jobs end in one order; ROOM is how many
-bytes their documents have at most, but for a few. Those of `orders.py 1 200 300 820` stand in crates/library_rows. It prints what the
+bytes their documents have at most, but for a few. Those of `orders.py 1 200 300 820` stand in crates/tests. It prints what the
 rows have in them.
 """
 

@@ -5,3 +5,4 @@ pub mod RecordLines
 pub mod Shown
 pub mod Stops
 pub mod Verdicts
+mod PlannedJobs

@@ -19,7 +19,7 @@ use Rattle.workflow_engine.specs.FirstPlan as first
 use Rattle.workflow_engine.specs.declared.planned.PlanFault.{PlanFault}
 use Rattle.workflow_engine.specs.declared.planned.Planned.{Planned}
 use Rattle.cwl_program.specs.Caches.{is_twofold, record_of}
-use Rattle.cwl_program.specs.Plans.{AreCounted, AreTextsOf, IsEndOfPlan, IsPlanTold, IsPlanned, lost, paper_of, planned, plans, stops}
+use Rattle.cwl_program.specs.Plans.{AreCounted, AreTextsOf, IsEndOfPlan, IsPlanTold, IsPlanned, lost, paper_of, planned, plans, stops, waiting_words}
 use Rattle.program_words.specs.RunWords.{RunWish}
 use Rattle.end_words.specs.RunEnds.{place_json}
 use Rattle.cwl_program.specs.Runs.{IsAsked, IsNamedProcess, IsNoInputs, IsNoProcess, IsReady, no_inputs, no_process, no_record, twofold}
@@ -90,27 +90,33 @@ pub planned_so : (process : Process) (inputs : Fields) (options : Options) (dot 
     (made : Result Planned PlanFault) (told : Result Exit AllocError) (answer : Result RunEnd AllocError)
     → are_looks looks ≡ true → after ≡ before ++ entries_of looks
     → first.Tells (record { process = process; inputs = inputs; options = options }) looks made
-    → IfOk told (IsPlanTold dot after made) → IfOk answer (λ end. told ≡ Ok end.exit)
+    → IfOk told (IsPlanTold process dot after made) → IfOk answer (λ end. told ≡ Ok end.exit)
     → IfOk answer (λ end. IsPlanned process inputs options dot end.exit)
 planned_so process inputs options dot before after looks made told answer are logged tells is same =
     noted_as (IsPlanned process inputs options dot) told answer
     (IfOk-weaker told _ _ (λ exit p. planned before after looks made are logged tells p) is) same
 
 -- the texts of a plan, where the places are written so
-pub are_texts : (dot : Bool) (made : Planned) (places : List Text) (known : List Known) (answer : Result PlanTexts AllocError)
-    → places ≡ map place_json made.places → length known ≡ length made.graph
+pub are_texts : (process : Process) (dot : Bool) (made : Planned) (places : List Text) (known : List Known) (near : List Text) (waiting : Text)
+    (answer : Result PlanTexts AllocError)
+    → places ≡ map place_json made.places → length known ≡ length made.graph → length near ≡ length made.graph
+    → waiting ≡ waiting_words process made.places known
     → IfOk answer (λ texts. texts.paper ≡ paper_of dot made places)
     → IfOk answer (λ texts. texts.lines ≡ plan_lines made.cost made.plan.marks places)
-    → IfOk answer (λ texts. texts.reasons ≡ reasons made.graph made.plan.marks known places)
-    → IfOk answer (AreTextsOf dot made)
-are_texts dot made places known (Err error) named each paper lines why = tt
-are_texts dot made places known (Ok texts) named each paper lines why =
+    → IfOk answer (λ texts. texts.reasons ≡ reasons made.graph made.plan.marks known near places ++ waiting)
+    → IfOk answer (AreTextsOf process dot made)
+are_texts process dot made places known near waiting (Err error) named each each_near waits paper lines why = tt
+are_texts process dot made places known near waiting (Ok texts) named each each_near waits paper lines why =
     record {
       known = known;
       each = each;
+      near = near;
+      each_near = each_near;
       paper = subst (λ (p : List Text). texts.paper ≡ paper_of dot made p) named paper;
       lines = subst (λ (p : List Text). texts.lines ≡ plan_lines made.cost made.plan.marks p) named lines;
-      reasons = subst (λ (p : List Text). texts.reasons ≡ reasons made.graph made.plan.marks known p) named why;
+      reasons =
+          subst (λ (p : List Text). texts.reasons ≡ reasons made.graph made.plan.marks known near p ++ waiting_words process made.places known) named
+          (subst (λ (w : Text). texts.reasons ≡ reasons made.graph made.plan.marks known near places ++ w) waits why);
     }
 
 -- an end that leaves nothing

@@ -126,13 +126,19 @@ pub check_stops : (file : Text) (stop : Stop) (answer : Result Exit AllocError)
     → IsStop (IsUnread file) stop → IfOk answer (λ exit. stop ≡ Early exit) → IfOk answer (IsCheck file)
 check_stops file stop answer is same = IfOk-weaker answer _ _ (λ exit end. unread end) (ends_so _ stop answer is same)
 
+-- an end like this one is of the same kind
+pub ends_like : (IsEnd : Exit → Option Text → Type 0) (exit : Exit) (left : Option Text) (answer : Result RunEnd AllocError)
+    → IsEnd exit left → IfOk answer (λ end. end.exit ≡ exit) → IfOk answer (λ end. end.left ≡ left)
+    → IfOk answer (λ end. IsEnd end.exit end.left)
+ends_like IsEnd exit left (Err error) is same kept = tt
+ends_like IsEnd exit left (Ok end) is same kept =
+    subst (λ (l : Option Text). IsEnd end.exit l) (sym kept) (subst (λ (e : Exit). IsEnd e left) (sym same) is)
+
 -- the end of a run that leaves nothing is this one
 pub ends_as : (IsEnd : Exit → Option Text → Type 0) (exit : Exit) (answer : Result RunEnd AllocError)
     → IsEnd exit None → IfOk answer (λ end. end.exit ≡ exit) → IfOk answer (λ end. end.left ≡ None)
     → IfOk answer (λ end. IsEnd end.exit end.left)
-ends_as IsEnd exit (Err error) is same gone = tt
-ends_as IsEnd exit (Ok end) is same gone =
-    subst (λ (l : Option Text). IsEnd end.exit l) (sym gone) (subst (λ (e : Exit). IsEnd e None) (sym same) is)
+ends_as IsEnd exit answer = ends_like IsEnd exit None answer
 
 -- or the stop's
 pub run_ends_so : (IsEnd : Exit → Option Text → Type 0) (stop : Stop) (answer : Result RunEnd AllocError)

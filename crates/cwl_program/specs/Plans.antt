@@ -1,15 +1,19 @@
 -- How a plan of a document on inputs ends the program.
-use Rattle.std.specs.Prelude.{◌≡◌, ◌++◌, Bool, true, List, length, map, Result, Ok, Err, if◌then◌else◌}
+use Rattle.std.specs.Prelude.{◌≡◌, ◌++◌, Bool, true, false, List, length, map, zip, Result, Ok, Err, if◌then◌else◌}
 use Rattle.clap.specs.Words.{Text}
 use Rattle.document_links.specs.declared.process.Process.{Process}
-use Rattle.job_graph.specs.Words.{Fields}
+use Rattle.job_graph.specs.Words.{Fields, JobPlace}
 use Rattle.plan_checker.specs.Certificate.{IsCertificate}
 use Rattle.plan_checker.specs.Charges.{IsCounted}
 use Rattle.plan_checker.specs.Format.{certificate_text}
+use Rattle.plan_waits.specs.Waiting.{waiting_steps}
+use Rattle.plan_waits.specs.declared.waiting.PlannedJob.{PlannedJob}
 use Rattle.plan_words.specs.Lines.{plan_lines}
 use Rattle.plan_words.specs.Picture.{picture}
 use Rattle.plan_words.specs.Reasons.{reasons}
+use Rattle.plan_words.specs.Waiting.{waiting_line}
 use Rattle.plan_words.specs.declared.reasons.Known.{Known}
+use Rattle.plan_words.specs.declared.reasons.Known.TheVariants.{NotReusable, NotRecorded, NotArchived, Archived}
 use Rattle.proc_host.specs.declared.call.Entry.{Entry}
 use Rattle.run_rules.specs.PlannedFirst.{are_looks}
 use Rattle.run_rules.specs.Reports.{entries_of}
@@ -20,6 +24,7 @@ use Rattle.workflow_engine.specs.declared.planned.PlanFault.{PlanFault}
 use Rattle.workflow_engine.specs.declared.planned.PlanFault.TheVariants as plan_faults
 use Rattle.workflow_engine.specs.declared.planned.Planned.{Planned}
 use Rattle.program_words.specs.RunWords.{RunWish}
+use Rattle.program_words.specs.Visible.{visible}
 use Rattle.end_words.specs.RunEnds.{fault_exit, place_json}
 use Rattle.cwl_program.specs.Runs.{IsAsked, IsReady, IsUnready}
 use Rattle.end_words.specs.declared.exit.Exit.{Exit}
@@ -42,28 +47,45 @@ paper_of dot made places =
     if dot then picture made.cost made.graph made.plan.marks made.charges places
     else certificate_text made.graph made.plan.marks made.charges
 
--- for the errors: `cost N` and a line for each job, and with `--explain` why each is treated so, by what is known of it
-pub record AreTextsOf (dot : Bool) (made : Planned) (texts : PlanTexts) : Type 0 where
+-- a job whose outputs are known only once it has run: the record has nothing of it, or its tool allows no reuse
+abbrev pub is_open : Known → Bool
+is_open NotReusable = true
+is_open NotRecorded = true
+is_open NotArchived = false
+is_open Archived = false
+
+abbrev pub planned_job : JobPlace × Known → PlannedJob
+planned_job entry = record { place = entry.0; is_open = is_open entry.1 }
+
+-- the line on the steps that wait for such jobs
+abbrev pub waiting_words : Process → List JobPlace → List Known → Text
+waiting_words process places known = waiting_line (map visible (waiting_steps process (map planned_job (zip places known))))
+
+-- for the errors: `cost N` and a line for each job, and with `--explain` why each is treated so, by what is known of it and the lines on what is
+-- near to it; then the steps that wait
+pub record AreTextsOf (process : Process) (dot : Bool) (made : Planned) (texts : PlanTexts) : Type 0 where
   pub known : List Known
   pub each : length known ≡ length made.graph
+  pub near : List Text
+  pub each_near : length near ≡ length made.graph
   pub paper : texts.paper ≡ paper_of dot made (map place_json made.places)
   pub lines : texts.lines ≡ plan_lines made.cost made.plan.marks (map place_json made.places)
-  pub reasons : texts.reasons ≡ reasons made.graph made.plan.marks known (map place_json made.places)
+  pub reasons : texts.reasons ≡ reasons made.graph made.plan.marks known near (map place_json made.places) ++ waiting_words process made.places known
 
 -- a process that fails before anything is started ends as its run does, and so does a fault
 abbrev pub plan_fault_exit : (log : List Entry) → PlanFault → Exit
 plan_fault_exit log (plan_faults.Failed place cause) = exits.Permanent (place_json place) cause
 plan_fault_exit log (plan_faults.Run fault) = fault_exit log fault
 
-pub data IsPlanTold (dot : Bool) (log : List Entry) : Result Planned PlanFault → Exit → Type 0 where
-  told : (made : Planned) (texts : PlanTexts) → AreTextsOf dot made texts → IsPlanTold dot log (Ok made) (exits.Plan texts)
-  failed : (fault : PlanFault) → IsPlanTold dot log (Err fault) (plan_fault_exit log fault)
+pub data IsPlanTold (process : Process) (dot : Bool) (log : List Entry) : Result Planned PlanFault → Exit → Type 0 where
+  told : (made : Planned) (texts : PlanTexts) → AreTextsOf process dot made texts → IsPlanTold process dot log (Ok made) (exits.Plan texts)
+  failed : (fault : PlanFault) → IsPlanTold process dot log (Err fault) (plan_fault_exit log fault)
 
 -- looks were made, after which a run of this process on these inputs comes to its first plan, or to its end; the program ends as that
 pub data IsPlanned (process : Process) (inputs : Fields) (options : Options) (dot : Bool) : Exit → Type 0 where
   planned : {exit : Exit} (before after : List Entry) (looks : List Pair) (result : Result Planned PlanFault) → are_looks looks ≡ true →
       after ≡ before ++ entries_of looks → first.Tells (record { process = process; inputs = inputs; options = options }) looks result →
-      IsPlanTold dot after result exit → IsPlanned process inputs options dot exit
+      IsPlanTold process dot after result exit → IsPlanned process inputs options dot exit
 
 -- ---- how the words of `plan` end the program
 

@@ -1,5 +1,6 @@
 //! `record --check`: in what a cache's files and its record differ.
-ghost use Rattle.std.specs.Prelude.{IfOk, OnOk};
+ghost use Rattle.std.specs.Prelude.{IfErr, IfOk, OnOk};
+ghost use Rattle.record_program.specs.Endings.{ShowsNone};
 ghost use Rattle.cwl_program.specs.Checked.{IsCheckEnding, IsCheckOn, IsParted, IsTold, Parts};
 
 use crate::caches::{FILES, RECORD, within};
@@ -38,9 +39,21 @@ fn checked_names<R: World + Records>(
     ensures { IfOk result (IsCheckOn R.Records rt.now cache.now remove) }
 {
     let record = within(rt.alloc(), cache, RECORD)?;
-    match rt.list_record(record.as_str()) {
+    match rows_of(rt, record.as_str(), remove) {
         Ok(listing) => check_ending(rt, files, names, &listing, remove),
         Err(ending) => Ok(ending),
+    }
+}
+
+// If folders are to go, no run may hold the record.
+fn rows_of<R: World + Records>(rt: &R, record: &str, remove: bool) -> Result<Listing, Ending>
+    ensures whose { IfOk result (R.Records.lists rt.now record.now) }
+    ensures err { IfErr result ShowsNone }
+{
+    if remove {
+        rt.list_record(record)
+    } else {
+        rt.see_rows(record)
     }
 }
 

@@ -16,17 +16,20 @@ use plain_data::Text;
 use process_machine::World;
 use program_words::{RunWords, load_base_of, load_rate_of, retries_of, slots_of};
 use run_core::Options;
+use run_facts::KeyParts;
 use std::alloc::{AllocError, Global};
 use std::io::Write;
 use std::process::Stdio;
 use std::{fs, mem};
 
-/// Makes the work folder, runs over a record, and removes the folder if that is possible, unless it is to stay.
+/// Makes the work folder, runs over a record, which had these jobs if they are wanted, and removes the folder if that is possible, unless it
+/// is to stay.
 pub fn on_disk<R: World, K: Record, E: Write>(
     rt: &R,
     given: &Given,
     places: &Places,
     call: &Call<'_>,
+    recorded: &[KeyParts],
     rows: &mut K,
     err: &mut E,
 ) -> Result<RunEnd, AllocError>
@@ -40,7 +43,7 @@ where
 {
     match make_work(rt, places) {
         Ok(opened) => {
-            let end = in_work(rt, given, places, call, rows, err);
+            let end = in_work(rt, given, places, call, recorded, rows, err);
             mem::drop(opened);
             match end {
                 Ok(mut end) => {
@@ -69,6 +72,7 @@ fn in_work<R: World, K: Record, E: Write>(
     given: &Given,
     places: &Places,
     call: &Call<'_>,
+    recorded: &[KeyParts],
     rows: &mut K,
     err: &mut E,
 ) -> Result<RunEnd, AllocError>
@@ -82,7 +86,7 @@ where
 {
     match outdir_for(rt, &given.process, &places.outdir) {
         Ok(is_new) => {
-            let end = in_folders(rt, given, places, call, rows, err);
+            let end = in_folders(rt, given, places, call, recorded, rows, err);
             if is_new {
                 let _removed = fs::remove_dir(rt, places.outdir.as_str());
             }
@@ -97,6 +101,7 @@ fn in_folders<R: World, K: Record, E: Write>(
     given: &Given,
     places: &Places,
     call: &Call<'_>,
+    recorded: &[KeyParts],
     rows: &mut K,
     err: &mut E,
 ) -> Result<RunEnd, AllocError>
@@ -109,7 +114,7 @@ where
         (seen K.Record rows.old) (seen K.Record rows.new) end.exit end.left) }
 {
     let options = options_of(rt.alloc(), places, call)?;
-    let end = with_options(rt, given, options, places, call.words, rows, err)?;
+    let end = with_options(rt, given, options, places, call.words, recorded, rows, err)?;
     end.leaving(rt.alloc(), call.words, &places.work)
 }
 

@@ -4,10 +4,26 @@ use command_line::Launch;
 use plain_data::Text;
 use proc_host::ChildEnd;
 use process_machine::{Hear, shown_line};
-use program_words::{Counts, Listen, Longest, Teller, Why};
+use program_words::{Counts, Listen, Longest, Silent, Teller, Why};
 use std::alloc::{AllocError, Global};
 use std::cell::RefCell;
 use std::io::Write;
+
+/// Takes lines on what is near to a job of which nothing is recorded. What there is no room for is left out.
+pub trait TakeNear {
+    /// Takes the lines on the job at a place, before it is started.
+    fn take_near(&mut self, place: Text, lines: Text);
+}
+
+impl TakeNear for Silent {
+    fn take_near(&mut self, _place: Text, _lines: Text) {}
+}
+
+impl<E: Write> TakeNear for Teller<'_, E> {
+    fn take_near(&mut self, place: Text, lines: Text) {
+        let _kept = self.know_near(place, lines);
+    }
+}
 
 /// A command that runs, and its job's place as JSON text.
 #[derive(Drop)]
@@ -70,6 +86,14 @@ impl<E: Write> Hear for Speaker<'_, '_, E> {
     fn hear(&mut self, ticket: u64, line: &[u8]) {
         if let Ok(mut voice) = self.voice.try_borrow_mut() {
             let _told = voice.tell_line(ticket, line);
+        }
+    }
+}
+
+impl<E: Write> TakeNear for Speaker<'_, '_, E> {
+    fn take_near(&mut self, place: Text, lines: Text) {
+        if let Ok(mut voice) = self.voice.try_borrow_mut() {
+            voice.teller.take_near(place, lines);
         }
     }
 }

@@ -1,11 +1,15 @@
 //! What becomes of the jobs of a run.
 
+use crate::hearing::TakeNear;
+use crate::memory::Memory;
+use crate::nearby::Nearby;
+use crate::traces::{Holding, Traces};
 use command_line::Launch;
-use cwl_value::JobPlace;
-use end_words::{Misses, Remembered, place_in};
+use cwl_value::{JobPlace, copy_job};
+use end_words::{Ended, place_in};
 use job_rows::Row;
 use plain_data::{Items, Keyed, Text};
-use proc_host::{ChildEnd, HostAnswer, HostFault, HostRequest};
+use proc_host::{ChildEnd, HostAnswer, HostRequest};
 use program_words::{Counts, Listen, Longest, Recalled, Savings, Why, reason_for};
 use run_core::{RecordAnswer, RecordRequest};
 use std::alloc::{AllocError, Global};
@@ -13,185 +17,23 @@ use std::rt::Clock;
 use std::time::Instant;
 use workflow_engine::Watch;
 
-/// How many files of rows are kept.
-const FILES_KEPT: usize = 4_096;
-
-/// What of an earlier run is asked for, and which document is run on which inputs.
-#[derive(Clone, Copy, Debug, Drop)]
-pub struct Memory<'a> {
-    /// The document's name.
-    pub document: &'a str,
-    /// The name of the input object's file, if it can be read again.
-    pub inputs: Option<&'a str>,
-    /// The name of the record's file, or of the cache that has it.
-    pub record: Option<&'a str>,
-    /// The name of the archive's folder, or of the cache that has it.
-    pub archive: Option<&'a str>,
-    /// Whether a record or an archive is named, so that a job could be loaded.
-    pub remembers: bool,
-    /// Whether an archive is kept.
-    pub keeps: bool,
-    /// Whether a line is to say what became of the jobs.
-    pub counts: bool,
-}
-
-/// A child that runs, its job's place, and since how many milliseconds after the start of the run.
+/// A child that runs, its job's place, also as JSON text, and since how many milliseconds after the start of the run.
 #[derive(Drop)]
 struct Running {
     ticket: u64,
     place: Text,
+    job: JobPlace,
     since: u64,
-}
-
-/// How the jobs are held that were put under a key.
-#[derive(Clone, Copy, Drop, PartialEq, Eq)]
-enum Holding {
-    /// With their files if an archive is kept.
-    Kept,
-    /// Their files could not be stored, or are not what they were.
-    Unkept,
-    /// The budget had no room for their files.
-    OverBudget,
-}
-
-/// The jobs of this run that were put under a key.
-#[derive(Drop)]
-struct Held {
-    jobs: u64,
-    holding: Holding,
-}
-
-/// What a run left that speaks of its jobs, whose places are JSON text.
-#[derive(Drop)]
-pub struct Traces<'a> {
-    /// What is known of the call, if its files are to be named.
-    pub memory: Option<Memory<'a>>,
-    /// How many jobs there were, and how many of them have ended.
-    pub counts: Counts,
-    // the last child of each job
-    tickets: Keyed<u64>,
-    // for the code of each fault of the host the first job that met it
-    failures: Keyed<Text>,
-    // what the record had of jobs, while there is room for their files
-    rows: Keyed<Remembered>,
-    room: usize,
-    // under each key that was put what became of its jobs
-    held: Keyed<Held>,
-    /// The jobs whose files could not be stored.
-    pub unstored: Misses,
-    /// The jobs whose rows the record refused, and the code of the last refusal.
-    pub unput: Misses,
-    pub refusal: &'static str,
-    /// The jobs whose use the record refused to note, and the code of the last such refusal.
-    pub untouched: Misses,
-    pub use_refusal: &'static str,
-    /// The jobs after which files could not be removed from the archive.
-    pub undiscarded: Misses,
-}
-
-impl<'a> Traces<'a> {
-    pub fn new(alloc: Global, memory: Option<Memory<'a>>) -> Traces<'a> {
-        Traces {
-            memory,
-            counts: Counts {
-                done: 0,
-                known: 0,
-                running: 0,
-            },
-            tickets: Keyed::new(alloc),
-            failures: Keyed::new(alloc),
-            rows: Keyed::new(alloc),
-            room: FILES_KEPT,
-            held: Keyed::new(alloc),
-            unstored: Misses::none(),
-            unput: Misses::none(),
-            refusal: "",
-            untouched: Misses::none(),
-            use_refusal: "",
-            undiscarded: Misses::none(),
-        }
-    }
-
-    /// What the record had of the job at a place.
-    pub fn row_at(&self, place: &str) -> Option<&Remembered> {
-        self.rows.get(place)
-    }
-
-    fn keep_row(&mut self, alloc: Global, place: &Text, row: &Row) -> Result<(), AllocError> {
-        // (a row without files takes room too)
-        let size = row.files.len().saturating_add(1);
-        if size <= self.room {
-            self.room -= size;
-            let kept = Remembered::of(alloc, row)?;
-            self.rows.insert(place.copied(alloc)?, kept)?;
-        }
-        Ok(())
-    }
-
-    /// The ticket of the last child of the job at a place.
-    pub fn ticket_at(&self, place: &str) -> Option<&u64> {
-        self.tickets.get(place)
-    }
-
-    /// The place of the first job for which a call of the host failed so.
-    pub fn failed_at(&self, fault: HostFault) -> Option<&Text> {
-        self.failures.get(fault.code())
-    }
-
-    /// How many jobs of this run the record has without their files, since the budget had no room for them.
-    pub fn over_budget(&self) -> u64 {
-        self.jobs_held(Holding::OverBudget)
-    }
-
-    fn jobs_held(&self, holding: Holding) -> u64 {
-        let mut jobs: u64 = 0;
-        for (_, held) in self.held.as_slice() {
-            if held.holding == holding {
-                jobs = jobs.saturating_add(held.jobs);
-            }
-        }
-        jobs
-    }
-
-    fn hold_one_more(
-        &mut self,
-        alloc: Global,
-        key: &Text,
-        is_kept: bool,
-    ) -> Result<(), AllocError> {
-        let jobs = match self.held.get(key.as_str()) {
-            None => 0,
-            Some(held) => held.jobs,
-        };
-        let holding = if is_kept {
-            Holding::Kept
-        } else {
-            Holding::Unkept
-        };
-        let jobs = jobs.saturating_add(1);
-        self.held
-            .insert(key.copied(alloc)?, Held { jobs, holding })?;
-        Ok(())
-    }
-
-    // The files of a key are not kept any longer.
-    fn lose(&mut self, alloc: Global, key: &Text, holding: Holding) -> Result<(), AllocError> {
-        if let Some(Held { jobs, .. }) = self.held.get(key.as_str()) {
-            let jobs = *jobs;
-            self.held
-                .insert(key.copied(alloc)?, Held { jobs, holding })?;
-        }
-        Ok(())
-    }
 }
 
 /// Keeps what becomes of each job, under its place as JSON text, and hands it to a listener. What there is no room for is left out.
 #[derive(Drop)]
-pub struct Jobs<'a, R: AllocGlobal + Clock, L: Listen> {
+pub struct Jobs<'a, R: AllocGlobal + Clock, L: Listen + TakeNear> {
     rt: &'a R,
     alloc: Global,
     listener: &'a mut L,
     memory: Memory<'a>,
+    nearby: Nearby<'a>,
     // when the run began, if the clock can be read
     start: Option<Instant>,
     // how many jobs were known at the last question
@@ -216,7 +58,7 @@ pub struct Jobs<'a, R: AllocGlobal + Clock, L: Listen> {
     is_whole: bool,
 }
 
-impl<'a, R: AllocGlobal + Clock, L: Listen> Jobs<'a, R, L> {
+impl<'a, R: AllocGlobal + Clock, L: Listen + TakeNear> Jobs<'a, R, L> {
     /// Begins, as the run does.
     pub fn new(rt: &'a R, listener: &'a mut L, memory: Memory<'a>) -> Jobs<'a, R, L> {
         let alloc = rt.alloc();
@@ -225,6 +67,7 @@ impl<'a, R: AllocGlobal + Clock, L: Listen> Jobs<'a, R, L> {
             alloc,
             listener,
             memory,
+            nearby: Nearby::new(alloc, memory.recorded),
             start: Instant::now(rt).ok(),
             known: 0,
             recalled: Keyed::new(alloc),
@@ -278,7 +121,7 @@ impl<'a, R: AllocGlobal + Clock, L: Listen> Jobs<'a, R, L> {
     fn kept_if_not_all(&self) -> Option<u64> {
         let traces = &self.traces;
         if traces.unstored.are_some() || traces.unput.are_some() || traces.over_budget() > 0 {
-            Some(traces.jobs_held(Holding::Kept))
+            Some(traces.kept())
         } else {
             None
         }
@@ -344,28 +187,13 @@ impl<'a, R: AllocGlobal + Clock, L: Listen> Jobs<'a, R, L> {
                 self.fetched = Some(place_in(self.alloc, place)?);
                 Ok(())
             }
-            HostAnswer::Failed(fault) => self.note_failure(place, *fault),
+            HostAnswer::Failed(fault) => self.traces.fail(self.alloc, place, *fault),
             _ => Ok(()),
         }
     }
 
-    // Keeps the first job whose call failed so.
-    fn note_failure(&mut self, place: &JobPlace, fault: HostFault) -> Result<(), AllocError> {
-        match fault {
-            HostFault::Store => self.traces.unstored.add(self.alloc, place)?,
-            HostFault::Discard => self.traces.undiscarded.add(self.alloc, place)?,
-            _ => {}
-        }
-        if self.traces.failures.contains(fault.code()) {
-            return Ok(());
-        }
-        let place = place_in(self.alloc, place)?;
-        let code = Text::from_text(self.alloc, fault.code())?;
-        self.traces.failures.insert(code, place)?;
-        Ok(())
-    }
-
     fn note_start(&mut self, place: &JobPlace, ticket: u64) -> Result<(), AllocError> {
+        let job = copy_job(self.alloc, place)?;
         let place = place_in(self.alloc, place)?;
         self.traces
             .tickets
@@ -374,6 +202,7 @@ impl<'a, R: AllocGlobal + Clock, L: Listen> Jobs<'a, R, L> {
         self.running.push(Running {
             ticket,
             place,
+            job,
             since: age,
         })?;
         let counts = self.counts();
@@ -386,7 +215,7 @@ impl<'a, R: AllocGlobal + Clock, L: Listen> Jobs<'a, R, L> {
     }
 
     fn note_end(&mut self, end: &ChildEnd) -> Result<(), AllocError> {
-        let Some(place) = self.place_of(end.ticket) else {
+        let Some(Running { place, job, .. }) = self.child_of(end.ticket) else {
             return Ok(());
         };
         self.done.insert(place.copied(self.alloc)?, true)?;
@@ -394,17 +223,22 @@ impl<'a, R: AllocGlobal + Clock, L: Listen> Jobs<'a, R, L> {
         let counts = self.counts();
         let longest = longest_of(self.running.as_slice(), age);
         self.listener.ended(&place, end, counts, longest);
+        self.traces.ends.push(Ended {
+            place,
+            job,
+            ticket: end.ticket,
+            code: end.code,
+        })?;
         Ok(())
     }
 
-    // Takes the job of a ticket out of the running ones.
-    fn place_of(&mut self, ticket: u64) -> Option<Text> {
+    // Takes the child of a ticket out of the running ones.
+    fn child_of(&mut self, ticket: u64) -> Option<Running> {
         let index = self
             .running
             .iter()
             .position(|child| child.ticket == ticket)?;
-        let Running { place, .. } = self.running.remove(index);
-        Some(place)
+        Some(self.running.remove(index))
     }
 
     fn note_record(
@@ -471,6 +305,10 @@ impl<'a, R: AllocGlobal + Clock, L: Listen> Jobs<'a, R, L> {
             self.traces.keep_row(self.alloc, &place, row)?;
         }
         let recalled = recalled_of(key.copied(self.alloc)?, row);
+        let near = self.nearby.lines_on(key, row.is_some())?;
+        if !near.as_str().is_empty() {
+            self.listener.take_near(place.copied(self.alloc)?, near);
+        }
         self.recalled.insert(place, recalled)?;
         Ok(())
     }
@@ -506,7 +344,7 @@ impl<'a, R: AllocGlobal + Clock, L: Listen> Jobs<'a, R, L> {
     }
 }
 
-impl<R: AllocGlobal + Clock, L: Listen> Watch for Jobs<'_, R, L> {
+impl<R: AllocGlobal + Clock, L: Listen + TakeNear> Watch for Jobs<'_, R, L> {
     fn asks(&mut self, place: &JobPlace, request: &HostRequest, known: usize) {
         self.known = known;
         let noted = self.note_question(place, request);

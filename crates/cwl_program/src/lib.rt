@@ -22,6 +22,8 @@ mod inputs;
 mod jobs;
 mod listed;
 mod looks;
+mod memory;
+mod nearby;
 mod notes;
 mod on_machine;
 mod outdir;
@@ -36,6 +38,7 @@ mod showing;
 mod standard_input;
 mod standard_output;
 mod tool_command;
+mod traces;
 mod usual_words;
 mod work_folder;
 

@@ -1,14 +1,15 @@
 //! What is said of the job or the input that failed, and of the result that could not be delivered.
 
-use crate::jobs::Traces;
+use crate::traces::Traces;
 use collected_outputs::OutputFault;
 use command_line::{BuildFault, Launch};
 use cwl_process::Tool;
 use end_words::{
-    Exit, Fault, Given, add_ending, add_listing, add_mismatch, add_obstacle, add_output,
-    add_over_budget, add_remarks, add_start, add_tally, add_uncopied, add_undiscarded, add_unput,
-    add_unstored, add_untouched, misfit_lines, missing_lines, secondary_lines, step_lines,
-    tool_lines, tool_of, unkept_for_room,
+    Counted, Ended, Exit, Fault, Given, Named, add_ending, add_listing, add_mismatch, add_obstacle,
+    add_output, add_over_budget, add_remarks, add_start, add_tally, add_uncopied, add_undiscarded,
+    add_unput, add_unstored, add_untouched, ended_with, failed_jobs, failed_too, misfit_lines,
+    missing_lines, more_words, other_failures, secondary_lines, step_lines, tally_of, tool_lines,
+    tool_of, unkept_for_room,
 };
 use job_graph::Cause as NoValue;
 use plain_data::Text;
@@ -23,10 +24,14 @@ use std::alloc::{AllocError, Global};
 /// The place of the process itself, as JSON text.
 const ROOT: &str = "\"main\"";
 
+/// Of how many further jobs whose command failed something is said.
+const MOST_BLOCKS: usize = 10;
+
 /// Returns lines on what failed. Of a job they have its command, how it ended, the last that it said, and if an output is lacking its
 /// pattern and what is there; of an input of the process its value or file; of a reference the text that it stands in; of a call of the host
 /// the place of the job, and where a program was looked for or what is in a folder that can't be listed; of a delivery the result that is
-/// lacking, why, and where it lies. Of a run they also say what it has ignored. If memory runs out there are none.
+/// lacking, why, and where it lies. Of a run that failed they also say which other commands failed, with the same of each, and what became
+/// of its jobs in numbers, and of any run what it has ignored. If memory runs out there are none.
 pub fn notes_on<R: World>(
     rt: &R,
     host: &Machine<R>,
@@ -48,10 +53,19 @@ fn all_lines<R: World>(
     exit: &Exit,
 ) -> Result<Vec<String>, AllocError> {
     let mut lines = lines_on(rt, host, given, traces, exit)?;
+    let failed = failed_in(rt.alloc(), given, traces, exit)?;
+    add_others(rt, host, traces, failed.as_slice(), exit, &mut lines)?;
     add_unkept(rt.alloc(), host, traces, &mut lines)?;
     if let Some(memory) = traces.memory {
         if matches!(exit, Exit::Permanent(_, _) | Exit::Temporary(_)) {
-            add_tally(rt.alloc(), traces.counts, memory.keeps, &mut lines)?;
+            add_counts(
+                rt.alloc(),
+                traces,
+                failed.as_slice(),
+                exit,
+                memory.keeps,
+                &mut lines,
+            )?;
         }
         add_remarks(rt, given, memory.document, memory.inputs, &mut lines)?;
     }
@@ -106,18 +120,12 @@ fn lines_on<R: World>(
         }
         Exit::Permanent(place, Cause::Collect(CollectCause::Output(fault))) => {
             let tool = tool_of(&given.process, place.as_str());
-            output_lines(
-                rt,
-                host.log(),
-                traces.ticket_at(place.as_str()),
-                tool,
-                fault,
-            )
+            output_lines(rt, host, traces.ticket_at(place.as_str()), tool, fault)
         }
         Exit::Permanent(place, Cause::Exit(_) | Cause::Collect(_)) | Exit::Temporary(place) => {
-            job_lines(rt, host.log(), traces.ticket_at(place.as_str()))
+            job_lines(rt, host, traces.ticket_at(place.as_str()))
         }
-        Exit::Mismatch(place) => mismatch_lines(rt, host.log(), traces, place.as_str()),
+        Exit::Mismatch(place) => mismatch_lines(rt, host, traces, place.as_str()),
         Exit::Fault(Fault::Host(HostFault::Deliver, _)) => delivery_lines(rt.alloc(), host),
         Exit::Fault(Fault::Host(fault, _)) => call_lines(rt, host, traces, *fault),
         _ => Ok(Vec::new(rt.alloc())),
@@ -199,14 +207,17 @@ fn value_lines(
 
 fn job_lines<R: World>(
     rt: &R,
-    log: &[Entry],
+    host: &Machine<R>,
     ticket: Option<&u64>,
 ) -> Result<Vec<String>, AllocError> {
     let Some(ticket) = ticket else {
         return Ok(Vec::new(rt.alloc()));
     };
-    match (launch_with(log, *ticket), end_of(log, *ticket)) {
-        (Some(launch), Some(end)) => child_lines(rt, launch, &end),
+    match (
+        launch_with(host.log(), *ticket),
+        end_of(host.log(), *ticket),
+    ) {
+        (Some(launch), Some(end)) => child_lines(rt, launch, &end, host.signal_of(*ticket)),
         _ => Ok(Vec::new(rt.alloc())),
     }
 }
@@ -214,17 +225,17 @@ fn job_lines<R: World>(
 // The same, the pattern of an output or what it refers to, and what the job left.
 fn output_lines<R: World>(
     rt: &R,
-    log: &[Entry],
+    host: &Machine<R>,
     ticket: Option<&u64>,
     tool: Option<&Tool>,
     fault: &OutputFault,
 ) -> Result<Vec<String>, AllocError> {
-    let mut lines = job_lines(rt, log, ticket)?;
+    let mut lines = job_lines(rt, host, ticket)?;
     if let Some(tool) = tool {
         add_output(rt.alloc(), tool, fault, &mut lines)?;
     }
     match ticket {
-        Some(ticket) => add_listing(rt.alloc(), log, *ticket, &mut lines)?,
+        Some(ticket) => add_listing(rt.alloc(), host.log(), *ticket, &mut lines)?,
         None => {}
     }
     Ok(lines)
@@ -233,18 +244,18 @@ fn output_lines<R: World>(
 // The same, which of its files are not those of its row, and how that is forgotten.
 fn mismatch_lines<R: World>(
     rt: &R,
-    log: &[Entry],
+    host: &Machine<R>,
     traces: &Traces<'_>,
     place: &str,
 ) -> Result<Vec<String>, AllocError> {
     let ticket = traces.ticket_at(place);
-    let mut lines = job_lines(rt, log, ticket)?;
+    let mut lines = job_lines(rt, host, ticket)?;
     if let Some(row) = traces.row_at(place) {
         let (record, keeps) = match &traces.memory {
             Some(memory) => (memory.record, memory.keeps),
             None => (None, false),
         };
-        let left = left_by(log, ticket);
+        let left = left_by(host.log(), ticket);
         add_mismatch(rt.alloc(), row, left, record, keeps, &mut lines)?;
     }
     Ok(lines)
@@ -260,6 +271,7 @@ fn child_lines<R: World>(
     rt: &R,
     launch: &Launch,
     end: &ChildEnd,
+    signal: Option<i32>,
 ) -> Result<Vec<String>, AllocError> {
     let alloc = rt.alloc();
     let mut lines = Vec::new(alloc);
@@ -267,7 +279,7 @@ fn child_lines<R: World>(
     lines.push(format!(in alloc; "command: {command}")?)?;
     let (how, millis) = (ending(alloc, end.code)?, end.millis);
     lines.push(format!(in alloc; "ended: {how}, {millis} ms")?)?;
-    add_ending(alloc, end.code, &mut lines)?;
+    add_ending(alloc, end.code, signal, &mut lines)?;
     add_messages(rt, launch, &mut lines)?;
     Ok(lines)
 }
@@ -293,6 +305,96 @@ fn add_last(alloc: Global, last: &str, lines: &mut Vec<String>) -> Result<(), Al
         lines.push(String::from_str(alloc, line)?)?;
     }
     Ok(())
+}
+
+// ---- the other jobs of a run that failed
+
+// The tickets of the children that failed.
+fn failed_in(
+    alloc: Global,
+    given: &Given,
+    traces: &Traces<'_>,
+    exit: &Exit,
+) -> Result<Vec<u64>, AllocError> {
+    match exit {
+        Exit::Permanent(_, _) | Exit::Temporary(_) => {
+            failed_jobs(
+                alloc,
+                &given.process,
+                &traces.tickets,
+                traces.ends.as_slice(),
+            )
+        }
+        _ => Ok(Vec::new(alloc)),
+    }
+}
+
+// The child of the job that the end names.
+fn named_by(traces: &Traces<'_>, exit: &Exit) -> Option<u64> {
+    match exit {
+        Exit::Permanent(place, _) | Exit::Temporary(place) => {
+            traces.ticket_at(place.as_str()).copied()
+        }
+        _ => None,
+    }
+}
+
+// Adds what is said of the children that failed but for the one that the end names.
+fn add_others<R: World>(
+    rt: &R,
+    host: &Machine<R>,
+    traces: &Traces<'_>,
+    failed: &[u64],
+    exit: &Exit,
+    lines: &mut Vec<String>,
+) -> Result<(), AllocError> {
+    let others = other_failures(rt.alloc(), failed, named_by(traces, exit))?;
+    for ticket in others.iter().take(MOST_BLOCKS) {
+        if let Some(ended) = ended_with(traces.ends.as_slice(), *ticket) {
+            add_other(rt, host, ended, lines)?;
+        }
+    }
+    let more = others.len().saturating_sub(MOST_BLOCKS) as u64;
+    if more > 0 {
+        lines.push(more_words(rt.alloc(), more)?)?;
+    }
+    Ok(())
+}
+
+fn add_other<R: World>(
+    rt: &R,
+    host: &Machine<R>,
+    ended: &Ended,
+    lines: &mut Vec<String>,
+) -> Result<(), AllocError> {
+    lines.push(failed_too(rt.alloc(), &ended.place)?)?;
+    for line in job_lines(rt, host, Some(&ended.ticket))? {
+        lines.push(line)?;
+    }
+    Ok(())
+}
+
+// Adds what became of the jobs.
+fn add_counts(
+    alloc: Global,
+    traces: &Traces<'_>,
+    failed: &[u64],
+    exit: &Exit,
+    keeps: bool,
+    lines: &mut Vec<String>,
+) -> Result<(), AllocError> {
+    let named = match (named_by(traces, exit), exit) {
+        (Some(ticket), _) => Named::Child(ticket),
+        (None, Exit::Permanent(_, Cause::Equation(_))) => Named::Step,
+        _ => Named::Job,
+    };
+    let counted = Counted {
+        known: traces.counts.known as u64,
+        before: traces.kept_before(),
+        started: traces.tickets.len() as u64,
+        kept: if keeps { Some(traces.kept()) } else { None },
+    };
+    add_tally(alloc, &tally_of(&counted, failed, named), lines)
 }
 
 // ---- a delivery

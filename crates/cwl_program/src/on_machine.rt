@@ -9,17 +9,18 @@ ghost use Rattle.cwl_program.specs.Runs.{IsRanOver};
 ghost use Rattle.cwl_program.specs.Seen.{seen};
 ghost use Rattle.cwl_program.specs.Tells.{IsRunTold};
 
-use crate::caches::{keeps_archive, remembers};
-use crate::hearing::{Speaker, Voice};
+use crate::hearing::{Speaker, TakeNear, Voice};
 use crate::held::held_by;
-use crate::jobs::{Jobs, Memory, Traces};
+use crate::jobs::Jobs;
+use crate::memory::{Memory, memory_of};
 use crate::notes::{notes_on, unkept_on};
-use crate::standard_input::file_of;
+use crate::traces::Traces;
 use end_words::{Exit, Given, Places, RunEnd, exit_of_run};
 use job_rows::Record;
 use process_machine::{Deaf, Hear, Heard, Machine, World};
 use program_words::{Listen, RunWords, Savings, Silent, Teller, Telling, launcher_of};
 use run_core::Options;
+use run_facts::KeyParts;
 use std::alloc::AllocError;
 use std::cell::RefCell;
 use std::io::Write;
@@ -28,13 +29,14 @@ use std::process::Stdio;
 use std::rt::Clock;
 use workflow_engine::run;
 
-/// Runs on a machine that works in these places, and asks a record of which nothing was asked.
+/// Runs on a machine that works in these places, and asks a record of which nothing was asked. It had these jobs, if they are wanted.
 pub fn with_options<R: World, K: Record, E: Write>(
     rt: &R,
     given: &Given,
     options: Options,
     places: &Places,
     words: &RunWords,
+    recorded: &[KeyParts],
     rows: &mut K,
     err: &mut E,
 ) -> Result<RunEnd, AllocError>
@@ -47,23 +49,11 @@ where
         (seen K.Record rows.old) (seen K.Record rows.new) end.exit) }
 {
     match guarded_machine(rt, given, places, words) {
-        Ok(host) => { told_of(rt, host, given, options, words, rows, err) }
+        Ok(host) => told_of(rt, host, given, options, words, recorded, rows, err),
         Err(error) => {
             mem::drop(options);
             Err(error)
         }
-    }
-}
-
-fn memory_of<'a>(words: &RunWords<'a>) -> Memory<'a> {
-    Memory {
-        document: words.document,
-        inputs: file_of(words.inputs),
-        record: words.cache.or(words.record_file),
-        archive: words.cache.or(words.archive),
-        remembers: remembers(words),
-        keeps: keeps_archive(words),
-        counts: remembers(words) || !matches!(words.telling, Telling::Nothing),
     }
 }
 
@@ -118,6 +108,7 @@ fn told_of<R: World, K: Record, E: Write>(
     given: &Given,
     options: Options,
     words: &RunWords,
+    recorded: &[KeyParts],
     rows: &mut K,
     err: &mut E,
 ) -> Result<RunEnd, AllocError>
@@ -132,13 +123,14 @@ where
 {
     match words.telling {
         Telling::Nothing => {
-            let (host, memory) = (Heard::new(host, Deaf), memory_of(words));
+            let (host, memory) = (Heard::new(host, Deaf), memory_of(words, recorded));
             ended(rt, host, given, options, &mut Silent, memory, rows)
         }
         Telling::Lines => {
             host.show_messages();
             let teller = Teller::new(rt.alloc(), err, words.telling, words.launcher);
-            told_aloud(rt, host, given, options, teller, memory_of(words), rows)
+            let memory = memory_of(words, recorded);
+            told_aloud(rt, host, given, options, teller, memory, rows)
         }
         Telling::OneLine | Telling::Objects => {
             let teller = Teller::new(rt.alloc(), err, words.telling, words.launcher);
@@ -164,7 +156,7 @@ where
     ensures { IfOk result (λ end. IsRanOver given.now.process given.now.inputs options
         (seen K.Record rows.old) (seen K.Record rows.new) end.exit) }
 {
-    let (host, memory) = (Heard::new(host, Deaf), memory_of(words));
+    let (host, memory) = (Heard::new(host, Deaf), memory_of(words, &[]));
     let end = ended(rt, host, given, options, &mut teller, memory, rows);
     teller.finish(counted_in(words, &end));
     mem::drop(teller);
@@ -206,7 +198,7 @@ where
     end
 }
 
-fn ended<R: World, H: Hear + Drop, K: Record, L: Listen>(
+fn ended<R: World, H: Hear + Drop, K: Record, L: Listen + TakeNear>(
     rt: &R,
     mut host: Heard<R, H>,
     given: &Given,
@@ -242,7 +234,7 @@ where
 }
 
 /// What became of the jobs of a run, if it succeeded.
-fn savings_of<R: AllocGlobal + Clock, L: Listen>(
+fn savings_of<R: AllocGlobal + Clock, L: Listen + TakeNear>(
     exit: &Result<Exit, AllocError>,
     jobs: &mut Jobs<'_, R, L>,
 ) -> Option<Savings> {

@@ -1,6 +1,7 @@
 //! The plan of a run of the user's own process: what it would load, compute and not need.
 ghost use Rattle.std.specs.Prelude.{◌≡◌, None, Some, IfOk};
 ghost use Rattle.run_core.specs.Limits.{IsWithinLimits};
+ghost use Rattle.workflow_check.specs.Checked.{fault_in};
 ghost use Rattle.cwl_program.specs.Caches.{record_of as file_of_record};
 ghost use Rattle.cwl_program.specs.Plans.{IsEndOfPlan, IsPlanned};
 ghost use Rattle.program_words.specs.RunWords.{wish_of_run};
@@ -8,13 +9,14 @@ ghost use Rattle.cwl_program.specs.Runs.{IsNamedProcess, IsReady};
 
 use crate::caches::{is_twofold, record_of};
 use crate::folders::options_of;
-use crate::jobs::Traces;
 use crate::looks::Looks;
+use crate::nearby::{is_kept, kept_in};
 use crate::on_machine::{machine_of, noted};
 use crate::plan_texts::exit_of_plan;
 use crate::run::{here_of, inputs_of, places_of, process_of, without_folder};
 use crate::run_record::without_record;
 use crate::standard_input::file_of;
+use crate::traces::Traces;
 use document_links::Process;
 use end_words::{Call, Exit, Fault, Given, Places, RunEnd, stopped_call, stopped_run};
 use job_rows::{MemoryRecord, Record};
@@ -23,10 +25,11 @@ use process_machine::{Machine, World};
 use program_words::PlanWords;
 use record_program::Records;
 use run_core::Options;
+use run_facts::KeyParts;
 use std::alloc::AllocError;
+use std::mem;
 use std::process::Stdio;
 use std::rt::Env;
-use std::{fs, io, mem};
 use workflow_engine::{Unwatched, plan_only};
 
 /// Plans a run of the process of a document on an input object, by the record that the words name. Nothing is made, started, fetched or
@@ -159,15 +162,6 @@ where
     in_memory(rt, given, call, dot)
 }
 
-/// Whether a file is opened as a record. Of one that is not there, and of one without a byte, a run would make a record; a plan makes none,
-/// and takes it as one without rows.
-fn is_kept<R: World>(rt: &R, file: &str) -> bool {
-    match fs::metadata(rt, file) {
-        Ok(found) => found.len() > 0,
-        Err(error) => !matches!(error.kind(), io::ErrorKind::NotFound),
-    }
-}
-
 fn in_memory<R: World>(
     rt: &R,
     given: &Given,
@@ -182,7 +176,7 @@ where
     ensures left { IfOk result (λ end. end.left ≡ None) }
 {
     let mut rows = MemoryRecord::new(rt.alloc(), None);
-    let end = by_rows(rt, given, call, &mut rows, dot);
+    let end = by_rows(rt, given, call, &[], &mut rows, dot);
     mem::drop(rows);
     end
 }
@@ -202,9 +196,31 @@ where
         call.now.path.now end.exit) }
     ensures left { IfOk result (λ end. end.left ≡ None) }
 {
-    match rt.open_record(file, None) {
+    let kept = kept_in(rt, file, call.words.explain);
+    let end = beside_kept(rt, given, call, file, kept.as_slice(), dot);
+    mem::drop(kept);
+    end
+}
+
+fn beside_kept<R: World + Records>(
+    rt: &R,
+    given: &Given,
+    call: &Call<'_>,
+    file: &str,
+    kept: &[KeyParts],
+    dot: bool,
+) -> Result<RunEnd, AllocError>
+where
+    R::File: Into<Stdio>,
+    requires ready { IsReady call.now.here.now (wish_of_run call.now.words.now) given.now }
+    requires file { file_of_record (wish_of_run call.now.words.now) ≡ Some file.now }
+    ensures end { IfOk result (λ end. IsEndOfPlan (wish_of_run call.now.words.now) dot
+        call.now.path.now end.exit) }
+    ensures left { IfOk result (λ end. end.left ≡ None) }
+{
+    match rt.see_record(file) {
         Ok(mut rows) => {
-            let end = by_rows(rt, given, call, &mut rows, dot);
+            let end = by_rows(rt, given, call, kept, &mut rows, dot);
             let left = rt.close_record(rows);
             mem::drop(left);
             end
@@ -213,11 +229,12 @@ where
     }
 }
 
-/// Plans by the rows of a record.
+/// Plans by the rows of a record that had these jobs.
 fn by_rows<R: World, K: Record>(
     rt: &R,
     given: &Given,
     call: &Call<'_>,
+    kept: &[KeyParts],
     rows: &mut K,
     dot: bool,
 ) -> Result<RunEnd, AllocError>
@@ -230,7 +247,7 @@ where
 {
     let places = places_of(rt.alloc(), call)?;
     let options = options_of(rt.alloc(), &places, call)?;
-    with_machine(rt, given, options, &places, rows, dot)
+    with_machine(rt, given, options, &places, kept, rows, dot)
 }
 
 fn with_machine<R: World, K: Record>(
@@ -238,18 +255,20 @@ fn with_machine<R: World, K: Record>(
     given: &Given,
     options: Options,
     places: &Places,
+    kept: &[KeyParts],
     rows: &mut K,
     dot: bool,
 ) -> Result<RunEnd, AllocError>
 where
     R::File: Into<Stdio>,
-    requires { IsWithinLimits options }
+    requires accepted { fault_in given.now.process ≡ None }
+    requires limits { IsWithinLimits options }
     ensures exit { IfOk result (λ end. IsPlanned given.now.process given.now.inputs options dot
         end.exit) }
     ensures left { IfOk result (λ end. end.left ≡ None) }
 {
     match machine_of(rt, places, false) {
-        Ok(host) => planned(rt, host, given, options, rows, dot),
+        Ok(host) => planned(rt, host, given, options, kept, rows, dot),
         Err(error) => {
             mem::drop(options);
             Err(error)
@@ -263,17 +282,19 @@ fn planned<R: World, K: Record>(
     mut host: Machine<R>,
     given: &Given,
     options: Options,
+    kept: &[KeyParts],
     rows: &mut K,
     dot: bool,
 ) -> Result<RunEnd, AllocError>
 where
     R::File: Into<Stdio>,
-    requires { IsWithinLimits options }
+    requires accepted { fault_in given.now.process ≡ None }
+    requires limits { IsWithinLimits options }
     ensures exit { IfOk result (λ end. IsPlanned given.now.process given.now.inputs options dot
         end.exit) }
     ensures left { IfOk result (λ end. end.left ≡ None) }
 {
-    let mut looks = Looks::new(rt.alloc(), rows);
+    let mut looks = Looks::new(rt.alloc(), kept, rows);
     let made = plan_only(
         rt.alloc(),
         &mut host,

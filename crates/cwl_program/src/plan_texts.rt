@@ -1,18 +1,22 @@
 //! What the program says of a plan.
-ghost use Rattle.std.specs.Prelude.{◌≡◌, length, map, IfOk};
+ghost use Rattle.std.specs.Prelude.{◌≡◌, ◌<◌, ◌++◌, [], length, map, slice_index_or, zip, IfOk};
 ghost use Rattle.plan_checker.specs.Format.{certificate_text};
 ghost use Rattle.plan_words.specs.Lines.{plan_lines};
 ghost use Rattle.plan_words.specs.Reasons.{reasons};
-ghost use Rattle.cwl_program.specs.Plans.{AreCounted, AreTextsOf, IsPlanTold, paper_of as paper, plan_fault_exit};
+ghost use Rattle.cwl_program.specs.Plans.{AreCounted, AreTextsOf, IsPlanTold, is_open, paper_of as paper, plan_fault_exit, planned_job, waiting_words};
 ghost use Rattle.end_words.specs.RunEnds.{place_json};
+ghost use Rattle.program_words.specs.Visible.{visible};
 
-use cwl_value::JobPlace;
+use crate::looks::Look;
+use cwl_value::{JobPlace, copy_job};
 use document_links::Process;
 use end_words::{Exit, PlanTexts, of_failure, of_fault, place_in};
 use plain_data::Text;
 use plan_checker::write_certificate;
-use plan_words::{Known, plan_lines, plan_picture, plan_reasons};
+use plan_waits::{PlannedJob, waiting_steps};
+use plan_words::{Known, plan_lines, plan_picture, plan_reasons, waiting_line};
 use proc_host::Entry;
+use program_words::visible_text;
 use run_facts::tool_at;
 use std::alloc::{AllocError, Global};
 use std::mem;
@@ -24,11 +28,11 @@ pub fn exit_of_plan(
     log: &[Entry],
     process: &Process,
     made: Result<Planned, PlanFault>,
-    answers: &[Known],
+    answers: &[Look],
     dot: bool,
 ) -> Result<Exit, AllocError>
     requires { IfOk made AreCounted }
-    ensures { IfOk result (IsPlanTold dot log.now made) }
+    ensures { IfOk result (IsPlanTold process.now dot log.now made) }
 {
     match made {
         Ok(made) => {
@@ -57,15 +61,25 @@ fn texts_of(
     alloc: Global,
     process: &Process,
     made: &Planned,
-    answers: &[Known],
+    answers: &[Look],
     dot: bool,
 ) -> Result<PlanTexts, AllocError>
     requires { AreCounted made.now }
-    ensures { IfOk result (AreTextsOf dot made.now) }
+    ensures { IfOk result (AreTextsOf process.now dot made.now) }
 {
     let places = shown(alloc, made.places.as_slice())?;
     let known = known_of(alloc, process, made.places.as_slice(), answers)?;
-    texts_with(alloc, made, places.as_slice(), known.as_slice(), dot)
+    let near = near_of(alloc, process, made.places.as_slice(), answers)?;
+    let waiting = waiting_of(alloc, process, made.places.as_slice(), known.as_slice())?;
+    texts_with(
+        alloc,
+        made,
+        places.as_slice(),
+        known.as_slice(),
+        near.as_slice(),
+        &waiting,
+        dot,
+    )
 }
 
 // The texts, with places that are written so.
@@ -74,25 +88,108 @@ fn texts_with(
     made: &Planned,
     places: &[Text],
     known: &[Known],
+    near: &[Text],
+    waiting: &Text,
     dot: bool,
 ) -> Result<PlanTexts, AllocError>
     requires made { AreCounted made.now }
     requires places { length places.now ≡ length made.now.graph }
     requires known { length known.now ≡ length made.now.graph }
+    requires near { length near.now ≡ length made.now.graph }
     ensures paper { IfOk result (λ texts. texts.paper ≡ paper dot made.now places.now) }
     ensures lines { IfOk result (λ texts. texts.lines
         ≡ plan_lines made.now.cost made.now.plan.marks places.now) }
     ensures reasons { IfOk result (λ texts. texts.reasons
-        ≡ reasons made.now.graph made.now.plan.marks known.now places.now) }
+        ≡ reasons made.now.graph made.now.plan.marks known.now near.now places.now
+        ++ waiting.now) }
 {
     let lines = plan_lines(alloc, made.cost, &made.plan, places)?;
-    let reasons = plan_reasons(alloc, &made.graph, &made.plan, known, places)?;
+    let reasons = plan_reasons(alloc, &made.graph, &made.plan, known, near, places)?;
+    let reasons = followed_by(reasons, waiting)?;
     let paper = paper_of(alloc, made, places, dot)?;
     Ok(PlanTexts {
         paper,
         lines,
         reasons,
     })
+}
+
+fn followed_by(first: Text, second: &Text) -> Result<Text, AllocError>
+    ensures { IfOk result (λ both. both ≡ first ++ second.now) }
+{
+    let mut both = first.into_string();
+    both.push_str(second.as_str())?;
+    Ok(Text::from_string(both))
+}
+
+// The line on the steps that wait for jobs at these places.
+fn waiting_of(
+    alloc: Global,
+    process: &Process,
+    places: &[JobPlace],
+    known: &[Known],
+) -> Result<Text, AllocError>
+    requires { length known.now ≡ length places.now }
+    ensures { IfOk result (λ line. line ≡ waiting_words process.now places.now known.now) }
+{
+    let jobs = jobs_at(alloc, places, known)?;
+    let ids = waiting_steps(alloc, process, jobs.as_slice())?;
+    let names = visible_texts(alloc, ids.as_slice())?;
+    waiting_line(alloc, names.as_slice())
+}
+
+fn jobs_at(
+    alloc: Global,
+    places: &[JobPlace],
+    known: &[Known],
+) -> Result<Vec<PlannedJob>, AllocError>
+    requires { length known.now ≡ length places.now }
+    ensures { IfOk result (λ jobs. jobs.items ≡ map planned_job (zip places.now known.now)) }
+{
+    let mut jobs = Vec::with_capacity(alloc, places.len())?;
+    for number in 0..places.len() {
+        jobs.push(job_at(alloc, places, known, number)?)?;
+    }
+    Ok(jobs)
+}
+
+fn job_at(
+    alloc: Global,
+    places: &[JobPlace],
+    known: &[Known],
+    number: usize,
+) -> Result<PlannedJob, AllocError>
+    requires place { number < length places.now }
+    requires known { number < length known.now }
+    ensures { IfOk result (λ job. job ≡ planned_job (
+      slice_index_or places.now number [],
+      slice_index_or known.now number Known.NotRecorded,
+    )) }
+{
+    Ok(PlannedJob {
+        place: copy_job(alloc, &places[number])?,
+        is_open: is_open(known[number]),
+    })
+}
+
+// Whether the record has nothing of a job that could be used, so that its outputs are known once it has run.
+fn is_open(known: Known) -> bool
+    ensures { result ≡ is_open known }
+{
+    match known {
+        Known::NotReusable | Known::NotRecorded => true,
+        Known::NotArchived | Known::Archived => false,
+    }
+}
+
+fn visible_texts(alloc: Global, texts: &[Text]) -> Result<Vec<Text>, AllocError>
+    ensures { IfOk result (λ shown. shown.items ≡ map visible texts.now) }
+{
+    let mut shown = Vec::with_capacity(alloc, texts.len())?;
+    for text in texts {
+        shown.push(visible_text(alloc, text)?)?;
+    }
+    Ok(shown)
 }
 
 // The picture of a plan, or its certificate.
@@ -140,7 +237,7 @@ fn known_of(
     alloc: Global,
     process: &Process,
     places: &[JobPlace],
-    answers: &[Known],
+    answers: &[Look],
 ) -> Result<Vec<Known>, AllocError>
     ensures { IfOk result (λ known. length known.items ≡ length places.now) }
 {
@@ -154,17 +251,52 @@ fn known_of(
     Ok(known)
 }
 
+// How each of these jobs differs from the nearest one that is recorded, in lines, if that was looked for.
+fn near_of(
+    alloc: Global,
+    process: &Process,
+    places: &[JobPlace],
+    answers: &[Look],
+) -> Result<Vec<Text>, AllocError>
+    ensures { IfOk result (λ near. length near.items ≡ length places.now) }
+{
+    let mut near = Vec::with_capacity(alloc, places.len())?;
+    let mut answered: usize = 0;
+    for place in places {
+        let (_, count) = known_at(process, place, answers, answered);
+        near.push(near_at(alloc, answers, answered, count)?)?;
+        answered = count;
+    }
+    Ok(near)
+}
+
+// The lines of an answer, if one was for the job.
+fn near_at(
+    alloc: Global,
+    answers: &[Look],
+    answered: usize,
+    count: usize,
+) -> Result<Text, AllocError> {
+    match answers.get(answered) {
+        Some(look) if answered < count => look.near.copied(alloc),
+        _ => Ok(Text::from_string(String::new(alloc))),
+    }
+}
+
 // What is known of the job at a place, if so many answers were for jobs before it, and for how many they were with it.
 fn known_at(
     process: &Process,
     place: &JobPlace,
-    answers: &[Known],
+    answers: &[Look],
     answered: usize,
 ) -> (Known, usize) {
     if !is_reusable(process, place) {
         return (Known::NotReusable, answered);
     }
-    let known = answers.get(answered).copied().unwrap_or(Known::NotRecorded);
+    let known = match answers.get(answered) {
+        Some(look) => look.known,
+        None => Known::NotRecorded,
+    };
     (known, answered.saturating_add(1))
 }
 

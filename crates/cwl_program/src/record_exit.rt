@@ -57,7 +57,7 @@ fn exit_of_list<R: World + Records>(rt: &R, words: &RecordWords) -> Result<Exit,
 fn listed<R: World + Records>(rt: &R, file: &str) -> Result<Ending, AllocError>
     ensures { IfOk result (IsLongOn R.Records rt.now file.now) }
 {
-    match rt.list_record(file) {
+    match rt.see_rows(file) {
         Ok(listing) => long_ending(rt.alloc(), &listing),
         Err(ending) => Ok(ending),
     }

@@ -1,19 +1,21 @@
 //! The record that a run asks.
-ghost use Rattle.std.specs.Prelude.{◌≡◌, None, Some, IfOk};
+ghost use Rattle.std.specs.Prelude.{◌≡◌, [], None, Some, IfOk};
 ghost use Rattle.cwl_program.specs.Caches.{record_of as file_of_record};
-ghost use Rattle.program_words.specs.RunWords.{wish_of_run};
+ghost use Rattle.program_words.specs.RunWords.{IsBudget, wish_of_run};
 ghost use Rattle.cwl_program.specs.Runs.{AreNamed, IsEndOfRun, IsReady};
 ghost use Rattle.cwl_program.specs.Tells.{IsRunTold};
 
 use crate::caches::{make_cache, record_of};
 use crate::folders::on_disk;
+use crate::nearby::{is_kept, kept_in};
 use end_words::{Call, Exit, Fault, Given, Places, RunEnd};
 use job_record::RecordFault;
 use job_rows::MemoryRecord;
 use plain_data::Text;
 use process_machine::World;
-use program_words::budget_of;
-use record_program::Records;
+use program_words::{Telling, budget_of};
+use record_program::{Records, is_unwritable};
+use run_facts::KeyParts;
 use std::alloc::{AllocError, Global};
 use std::io::Write;
 use std::mem;
@@ -62,12 +64,13 @@ where
         (wish_of_run call.now.words.now) call.now.path.now end.exit end.left) }
 {
     let mut rows = MemoryRecord::new(rt.alloc(), budget_of(call.words));
-    let end = on_disk(rt, given, places, call, &mut rows, err);
+    let end = on_disk(rt, given, places, call, &[], &mut rows, err);
     mem::drop(rows);
     end
 }
 
-/// Holds the record of the file that is named until the run has ended.
+/// Runs over the record of the file that is named. What it has is read first, if it is to be said how jobs differ from that: to read a file that
+/// is held would let it go.
 fn in_file<R: World + Records, E: Write>(
     rt: &R,
     given: &Given,
@@ -86,15 +89,100 @@ where
         (wish_of_run call.now.words.now) call.now.path.now end.exit end.left) }
 {
     make_cache(rt, call.words);
-    match rt.open_record(file, budget_of(call.words)) {
-        Ok(mut rows) => {
-            let end = on_disk(rt, given, places, call, &mut rows, err);
-            let left = rt.close_record(rows);
-            mem::drop(left);
-            end
-        }
-        Err(fault) => without_record(rt.alloc(), fault, file),
+    let tells = matches!(call.words.telling, Telling::Lines);
+    let recorded = kept_in(rt, file, tells && is_kept(rt, file));
+    let end = beside_recorded(rt, given, places, call, file, recorded.as_slice(), err);
+    mem::drop(recorded);
+    end
+}
+
+fn beside_recorded<R: World + Records, E: Write>(
+    rt: &R,
+    given: &Given,
+    places: &Places,
+    call: &Call<'_>,
+    file: &str,
+    recorded: &[KeyParts],
+    err: &mut E,
+) -> Result<RunEnd, AllocError>
+where
+    R::File: Into<Stdio>,
+    requires ready { IsReady call.now.here.now (wish_of_run call.now.words.now) given.now }
+    requires named { AreNamed call.now.here.now (wish_of_run call.now.words.now) places.now }
+    requires file { file_of_record (wish_of_run call.now.words.now) ≡ Some file.now }
+    ensures told { IsRunTold call.now.words.now.telling (E.contents err.old) (E.contents err.new) }
+    ensures end { IfOk result (λ end. IsEndOfRun R.Records R.Kept.Record rt.now
+        (wish_of_run call.now.words.now) call.now.path.now end.exit end.left) }
+{
+    let budget = budget_of(call.words);
+    match rt.open_record(file, budget) {
+        Ok(rows) => by_record(rt, given, places, call, file, recorded, budget, rows, err),
+        Err(fault) => in_copy(rt, given, places, call, file, recorded, budget, fault, err),
     }
+}
+
+/// Runs over a copy of a record that may be read and not written, and keeps nothing. A budget wants the record itself.
+fn in_copy<R: World + Records, E: Write>(
+    rt: &R,
+    given: &Given,
+    places: &Places,
+    call: &Call<'_>,
+    file: &str,
+    recorded: &[KeyParts],
+    budget: Option<u64>,
+    fault: RecordFault,
+    err: &mut E,
+) -> Result<RunEnd, AllocError>
+where
+    R::File: Into<Stdio>,
+    requires ready { IsReady call.now.here.now (wish_of_run call.now.words.now) given.now }
+    requires named { AreNamed call.now.here.now (wish_of_run call.now.words.now) places.now }
+    requires file { file_of_record (wish_of_run call.now.words.now) ≡ Some file.now }
+    requires budget { IsBudget (wish_of_run call.now.words.now).budget budget }
+    ensures told { IsRunTold call.now.words.now.telling (E.contents err.old) (E.contents err.new) }
+    ensures end { IfOk result (λ end. IsEndOfRun R.Records R.Kept.Record rt.now
+        (wish_of_run call.now.words.now) call.now.path.now end.exit end.left) }
+{
+    if budget.is_some() || !is_unwritable(&fault) {
+        return without_record(rt.alloc(), fault, file);
+    }
+    match rt.see_record(file) {
+        Ok(rows) => {
+            let end = by_record(rt, given, places, call, file, recorded, None, rows, err)?;
+            end.unwritten(rt.alloc(), file)
+        }
+        Err(_) => without_record(rt.alloc(), fault, file),
+    }
+}
+
+/// Holds a record that was opened of the file until the run has ended.
+fn by_record<R: World + Records, E: Write>(
+    rt: &R,
+    given: &Given,
+    places: &Places,
+    call: &Call<'_>,
+    file: &str,
+    recorded: &[KeyParts],
+    budget: Option<u64>,
+    mut rows: R::Kept,
+    err: &mut E,
+) -> Result<RunEnd, AllocError>
+where
+    R::File: Into<Stdio>,
+    requires ready { IsReady call.now.here.now (wish_of_run call.now.words.now) given.now }
+    requires named { AreNamed call.now.here.now (wish_of_run call.now.words.now) places.now }
+    requires file { file_of_record (wish_of_run call.now.words.now) ≡ Some file.now }
+    requires budget { IsBudget (wish_of_run call.now.words.now).budget budget }
+    requires opened { R.opens rt.now file.now budget rows }
+    requires unasked { R.Kept.log rows ≡ [] }
+    ensures told { IsRunTold call.now.words.now.telling (E.contents err.old) (E.contents err.new) }
+    ensures end { IfOk result (λ end. IsEndOfRun R.Records R.Kept.Record rt.now
+        (wish_of_run call.now.words.now) call.now.path.now end.exit end.left) }
+{
+    let end = on_disk(rt, given, places, call, recorded, &mut rows, err);
+    let left = rt.close_record(rows);
+    mem::drop(left);
+    end
 }
 
 /// The end of a program that can't open the record of this file.

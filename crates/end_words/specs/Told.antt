@@ -82,7 +82,7 @@ abbrev pub IsLeftTold : Option Text → (err err_new : Held) → Type 0
 IsLeftTold None err err_new = err_new ≡ err
 IsLeftTold (Some work) err err_new = IsPut (left_words work) err err_new
 
--- what a run could not keep for later ones since there is no room
+-- what a run could not keep for later ones, since there is no room or since the record may not be written
 abbrev pub unkept_words : (what : List ℕ) → List ℕ
 unkept_words what = codes "not kept: " ++ what
 

@@ -1,6 +1,11 @@
 //! What an exit code of a shell speaks of, and an end by a signal.
+ghost use Rattle.std.specs.Prelude.{◌≡◌, IfOk, string_bytes};
+ghost use Rattle.end_words.specs.Endings as spec;
 
 use std::alloc::{AllocError, Global};
+
+/// What a shell adds to the number of a signal.
+const SHELL: i32 = 128;
 
 /// Signals that end programs: the code of a shell whose command one ended, its number and name, and what it may come from.
 static SIGNALS: [(i32, &str, &str); 13] = [
@@ -54,14 +59,15 @@ const FORBIDDEN: &str = "a shell ends with 126 if a program is there and can't b
 const BY_SIGNAL: &str =
     "a signal comes from the system if memory runs out (SIGKILL), from a program that reads or writes where it may not (SIGSEGV) or gives up (SIGABRT), and from who ends it (SIGTERM)";
 
-/// Adds a line on what an exit code says if it is a shell's, or on what signals come from.
+/// Adds a line on what an exit code says if it is a shell's, or on the signal, or on what signals come from if it is not known.
 pub fn add_ending(
     alloc: Global,
     code: Option<i32>,
+    signal: Option<i32>,
     lines: &mut Vec<String>,
 ) -> Result<(), AllocError> {
     match code {
-        None => lines.push(String::from_str(alloc, BY_SIGNAL)?)?,
+        None => lines.push(killed_words(alloc, signal)?)?,
         Some(126) => lines.push(String::from_str(alloc, FORBIDDEN)?)?,
         Some(127) => lines.push(String::from_str(alloc, NO_PROGRAM)?)?,
         Some(code) => add_signal(alloc, code, lines)?,
@@ -70,12 +76,43 @@ pub fn add_ending(
 }
 
 fn add_signal(alloc: Global, code: i32, lines: &mut Vec<String>) -> Result<(), AllocError> {
-    for (shown, signal, why) in SIGNALS.iter() {
-        if code == *shown {
-            lines.push(format!(in alloc;
-                "a shell ends with {code} if its command was killed by signal {signal}: {why}"
-            )?)?;
-        }
+    if let Some((signal, why)) = signal_of(code) {
+        lines.push(format!(in alloc;
+            "a shell ends with {code} if its command was killed by signal {signal}: {why}"
+        )?)?;
     }
     Ok(())
+}
+
+// What ended a command that has no code.
+fn killed_words(alloc: Global, signal: Option<i32>) -> Result<String, AllocError> {
+    let Some(signal) = signal else {
+        return String::from_str(alloc, BY_SIGNAL);
+    };
+    match signal_of(signal.saturating_add(SHELL)) {
+        Some((name, why)) => killed_for(alloc, name, why),
+        None => killed_by(alloc, signal),
+    }
+}
+
+fn killed_for(alloc: Global, name: &str, why: &str) -> Result<String, AllocError>
+    ensures { IfOk result (λ line. string_bytes line ≡ spec.killed_for name.now why.now) }
+{
+    format!(in alloc; "killed by signal {name}: {why}")
+}
+
+fn killed_by(alloc: Global, signal: i32) -> Result<String, AllocError>
+    ensures { IfOk result (λ line. string_bytes line ≡ spec.killed_by signal) }
+{
+    format!(in alloc; "killed by signal {signal}")
+}
+
+// The number and name of a signal, and what it may come from, by the code of a shell.
+fn signal_of(code: i32) -> Option<(&'static str, &'static str)> {
+    for (shown, name, why) in SIGNALS.iter() {
+        if code == *shown {
+            return Some((*name, *why));
+        }
+    }
+    None
 }

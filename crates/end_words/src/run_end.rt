@@ -4,6 +4,7 @@ ghost use Rattle.program_words.specs.RunWords.{wish_of_run};
 ghost use Rattle.end_words.specs.Leaving as spec;
 
 use crate::exit::{Exit, Fault};
+use crate::explaining::unkept_words;
 use plain_data::Text;
 use proc_host::HostFault;
 use program_words::{RunWords, Savings};
@@ -19,7 +20,7 @@ pub struct RunEnd {
     pub notes: Vec<String>,
     /// What became of its jobs, if a run that succeeded says it.
     pub savings: Option<Savings>,
-    /// What a run could not keep since there is no room, which is said in one line though no words are asked for.
+    /// What a run could not keep since there is no room or since the record may not be written. It is said in one line though no words are asked for.
     pub unkept: Option<Text>,
 }
 
@@ -60,6 +61,43 @@ impl RunEnd {
             unkept,
         })
     }
+
+    /// Adds that nothing of a run is kept, since the file of its record may not be written. It is said of a run that came to the end of its jobs.
+    pub fn unwritten(self, alloc: Global, file: &str) -> Result<RunEnd, AllocError>
+        ensures exit { IfOk result (λ end. end.exit ≡ self.exit) }
+        ensures left { IfOk result (λ end. end.left ≡ self.left) }
+    {
+        if !is_of_jobs(&self.exit) {
+            return Ok(self);
+        }
+        let what = format!(in alloc; "the jobs of this run, since {file} may not be written")?;
+        let RunEnd {
+            exit,
+            left,
+            mut notes,
+            savings,
+            unkept: _,
+        } = self;
+        notes.push(unkept_words(alloc, what.as_str())?)?;
+        Ok(RunEnd {
+            exit,
+            left,
+            notes,
+            savings: savings.map(|it| Savings {
+                kept: Some(0),
+                ..it
+            }),
+            unkept: Some(Text::from_string(what)),
+        })
+    }
+}
+
+// Whether the jobs of a run led to an end.
+fn is_of_jobs(exit: &Exit) -> bool {
+    matches!(
+        exit,
+        Exit::Output(_) | Exit::Permanent(..) | Exit::Temporary(_)
+    )
 }
 
 fn left_of(

@@ -1,9 +1,9 @@
-//! What is said of a run that failed: of its jobs, and of a job that gave something else than the record has.
+//! What is said of a job that gave something else than the record has.
 
 use hex::encode;
 use job_rows::Row;
 use plain_data::{Items, Text};
-use program_words::{Counts, add_word};
+use program_words::add_word;
 use sha1::Sha1;
 use staging::Found;
 use std::alloc::{AllocError, Global};
@@ -107,28 +107,6 @@ fn add_remedy(
     add_word(&mut command, record)?;
     lines.push(format!(in alloc;
         "`{command}` forgets what the record has, if what is there now is right"
-    )?)?;
-    Ok(())
-}
-
-/// Adds a line with how many jobs of a run that failed have ended; none if that is one alone.
-pub fn add_tally(
-    alloc: Global,
-    counts: Counts,
-    keeps: bool,
-    lines: &mut Vec<String>,
-) -> Result<(), AllocError> {
-    if counts.done < 2 {
-        return Ok(());
-    }
-    let (known, done) = (counts.known, counts.done);
-    let more = if keeps {
-        "the next run with the same cache does not do again what is kept"
-    } else {
-        "with `--cache DIR` the next run would not do again what is done"
-    };
-    lines.push(format!(in alloc;
-        "jobs that ended or were loaded: {done} of {known} known ones; {more}"
     )?)?;
     Ok(())
 }

@@ -12,7 +12,7 @@ use Rattle.sqlite_schema.specs.declared.command.Command.TheVariants.{Select, Beg
 use Rattle.sqlite_schema.specs.declared.command.Returning.{Returning}
 use Rattle.sqlite_resolve.specs.declared.compiled.Compiled.{Compiled}
 use Rattle.sqlite.specs.Effect.{Database}
-use Rattle.sqlite.specs.State.{State, KeepsCounts, Shows, IsUnchanged, IsRolledBack, HasCause, Fails, Writes, Runs, RunsCommand, shows_rows, IsStatement, IsNotRun, ShowsRows, Shown, FailsToShow, FailsToQuery, Begins, QueriesRow, CommitsShowing}
+use Rattle.sqlite.specs.State.{State, KeepsCounts, Shows, IsUnchanged, IsRolledBack, HasCause, Fails, Writes, Runs, RunsCommand, IsStatement, IsNotRun, ShowsRows, Shown, FailsToShow, FailsToQuery, Begins, QueriesRow, CommitsShowing}
 use Rattle.sqlite.proofs.Callers.{unchanged_then}
 
 module _ (old mid new : State) (same : IsUnchanged old mid) (limit : mid.step_limit ≡ old.step_limit) (counts : old.faults ≤ mid.faults) where

@@ -2,7 +2,6 @@
 use Rattle.std.proofs.Common.{inl, inr, ℕ, List, [], Option, Some, None, Result, Ok, Err, IsTrue}
 use Rattle.sqlite.specs.Store.{Ghosts}
 use Rattle.sqlite.specs.Order.{Row as Columns}
-use Rattle.sqlite.specs.declared.error.Error.{Error}
 use Rattle.sqlite.specs.declared.error.Error.TheVariants.{QueryReturnedNoRows}
 use Rattle.sqlite.specs.State.{State, IsNotRun, FailsToShow, FailsToQuery, ShowsRows, Shown, QueriesRow}
 use Rattle.sqlite.specs.Held.{Held, state}

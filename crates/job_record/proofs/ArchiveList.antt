@@ -1,12 +1,12 @@
 -- Lists of archives, and the maps from key to columns that they are.
-use Rattle.std.proofs.Common.{◌≡◌, ◌⊎◌, inl, inr, ℕ, suc, zero, ◌+◌, ◌-◌, ◌^◌, ◌*◌, ◌≤◌, ◌<◌, max, pos, Bool, true, false, not, ◌||◌, cond, if◌then◌else◌, List, [], ◌∷◌, ◌++◌, take, drop, Option, Some, None, option_map, bytes_eq, IsTrue, refl, sym, ap, subst, ◌∙◌, append-nil, arith, true≢false}
-use Rattle.std.specs.Prelude.{filter, find, option_to_list}
+use Rattle.std.proofs.Common.{◌≡◌, ◌⊎◌, inl, inr, ℕ, ◌+◌, ◌^◌, ◌*◌, ◌≤◌, ◌<◌, max, Bool, true, false, not, ◌||◌, cond, if◌then◌else◌, List, [], ◌∷◌, ◌++◌, Option, Some, None, option_map, bytes_eq, refl, sym, ap, subst, ◌∙◌, arith, true≢false}
+use Rattle.std.specs.Prelude.{filter, find}
 use Rattle.std.specs.Cmp.Lexicographic.{bytes_decides}
 use Rattle.std.proofs.lemmas.List.Folds.{list_any-append}
 use Rattle.sqlite.specs.Order.{Row as Columns}
 use Rattle.sqlite_rules.specs.Lists.{Has}
 use Rattle.job_rows.specs.declared.archive.Archive.{Archive}
-use Rattle.job_rows.specs.Map.{is_of, has_archive, without_archive, touched, greatest_used, next_used, total_bytes, greatest_number, AreUnspent}
+use Rattle.job_rows.specs.Map.{is_of, has_archive, without_archive, greatest_used, total_bytes, greatest_number}
 use Rattle.job_rows.specs.InStep.{AreApart, AreRising}
 use Rattle.job_record.specs.Keyed.{held_in}
 use Rattle.job_record.specs.Archives.{archive_columns, IsWithinStore, AreArchives}

@@ -12,7 +12,7 @@ use Rattle.sqlite_rules.specs.Lists.{Has}
 use Rattle.sqlite_rules.proofs.ProbeLemmas.{has_mapped}
 use Rattle.job_rows.specs.declared.archive.Archive.{Archive}
 use Rattle.job_record.specs.OpenMap.{by_key}
-use Rattle.job_record.proofs.Compiled.{archived_query, is_archived}
+use Rattle.job_record.specs.Commands.{archived_on, is_archived}
 use Rattle.job_record.proofs.Numbered.{AreNumbered}
 use Rattle.job_record.proofs.Shown.{permuted, passes, from_chosen}
 
@@ -42,30 +42,30 @@ as_long used [] (own ∷ new) are = absurd are
 as_long used (o ∷ os) [] are = absurd are
 as_long used (o ∷ os) (own ∷ new) are = let e = as_long (used + 1) os new are.2 in omega (arith, e)
 
-same_order : (a b : Output) (x y : Archive) → a.0 ≡ Text x.key ∷ [] → b.0 ≡ Text y.key ∷ [] → is_lt (output_cmp archived_query a b) ≡ is_lt (by_key x y)
-same_order a b x y p q = rw (p, q) (less_then _ ∙ ap is_lt (value_cmp-Text x.key y.key))
+same_order : (tree : ℕ) (a b : Output) (x y : Archive) → a.0 ≡ Text x.key ∷ [] → b.0 ≡ Text y.key ∷ [] → is_lt (output_cmp (archived_on tree) a b) ≡ is_lt (by_key x y)
+same_order tree a b x y p q = rw (p, q) (less_then _ ∙ ap is_lt (value_cmp-Text x.key y.key))
 
-sorted_archives : (used : ℕ) (os : List Output) (new : List Archive) → ((o : Output) → Has os o → IsByFirst o) → AreNumbered used (shown_of os) new → IsSorted (output_cmp archived_query) os → IsSorted by_key new
-sorted_archives used os new by are sorted k e low high =
+sorted_archives : (tree used : ℕ) (os : List Output) (new : List Archive) → ((o : Output) → Has os o → IsByFirst o) → AreNumbered used (shown_of os) new → IsSorted (output_cmp (archived_on tree)) os → IsSorted by_key new
+sorted_archives tree used os new by are sorted k e low high =
     let d : Output = ([], []) in
     let long = as_long used os new are in
     let p = keys_at used os new by are (k + 1) d e high in
     let q = keys_at used os new by are k d e (omega (arith, high)) in
-    sym (same_order (get_or os (k + 1) d) (get_or os k d) (get_or new (k + 1) e) (get_or new k e) p q) ∙ sorted k d low (omega (arith, high, long))
+    sym (same_order tree (get_or os (k + 1) d) (get_or os k d) (get_or new (k + 1) e) (get_or new k e) p q) ∙ sorted k d low (omega (arith, high, long))
 
-module _ (db : Trees) (all : List Columns) (sure : IsSureAnswer archived_query (overlay db []) [] all) where
-  answer : IsAnswer archived_query (overlay db []) [] all
+module _ (tree : ℕ) (db : Trees) (all : List Columns) (sure : IsSureAnswer (archived_on tree) (overlay db []) [] all) where
+  answer : IsAnswer (archived_on tree) (overlay db []) [] all
   answer = sure Null
 
   by_first : (o : Output) → Has answer.ordered o → IsByFirst o
   by_first o h =
-      let every = matches (overlay db []) is_archived (inner 2 end) ([] ∷ []) in
-      let kept : answer.kept ≡ map (output archived_query) every = answer.distinct ∙ ap (map (output archived_query)) answer.grouped in
-      let e = has_mapped (output archived_query) every o (subst (λ l. Has l o) kept (permuted answer.kept answer.ordered o answer.same h)) in
-      let r = from_chosen (passes is_archived []) (λ (z : Columns). [] ∷ z ∷ []) (overlay db [] 2) e.0 e.1 in
-      let is : o ≡ output archived_query ([] ∷ r.0 ∷ []) = e.2 ∙ ap (output archived_query) r.3 in
+      let every = matches (overlay db []) is_archived (inner tree end) ([] ∷ []) in
+      let kept : answer.kept ≡ map (output (archived_on tree)) every = answer.distinct ∙ ap (map (output (archived_on tree))) answer.grouped in
+      let e = has_mapped (output (archived_on tree)) every o (subst (λ l. Has l o) kept (permuted answer.kept answer.ordered o answer.same h)) in
+      let r = from_chosen (passes is_archived []) (λ (z : Columns). [] ∷ z ∷ []) (overlay db [] tree) e.0 e.1 in
+      let is : o ≡ output (archived_on tree) ([] ∷ r.0 ∷ []) = e.2 ∙ ap (output (archived_on tree)) r.3 in
       ap (λ (p : Output). p.0) is ∙ ap (λ v. v ∷ []) (sym (ap (λ (p : Output). column p.1 0) is))
 
   pub archives_sorted : (used : ℕ) (new : List Archive) → AreNumbered used all new → IsSorted by_key new
   unfolding answer
-  archives_sorted used new are = sorted_archives used answer.ordered new by_first (subst (λ l. AreNumbered used l new) answer.shown are) answer.sorted
+  archives_sorted used new are = sorted_archives tree used answer.ordered new by_first (subst (λ l. AreNumbered used l new) answer.shown are) answer.sorted

@@ -10,7 +10,6 @@ use Rattle.sqlite.specs.declared.types.Value.TheVariants.{Int, Text}
 use Rattle.sqlite.specs.Order.{Row as Columns, column}
 use Rattle.sqlite.specs.Program.{overlay}
 use Rattle.sqlite.specs.Query.{Output, output, IsSureAnswer}
-use Rattle.sqlite.specs.Schema.{Schema}
 use Rattle.sqlite.specs.Tree.{Trees}
 use Rattle.sqlite.specs.Listing.{understood}
 use Rattle.sqlite.specs.declared.error.Error.{Error}
@@ -27,7 +26,6 @@ use Rattle.job_rows.specs.declared.archive.Archive.{Archive}
 use Rattle.job_rows.specs.InStep.{AreRising}
 use Rattle.job_record.specs.declared.fault.RecordFault.{RecordFault}
 use Rattle.job_record.specs.declared.fault.RecordFault.TheVariants.{NotARecord, WrongVersion, NoRow, Store, UsesSpent, OutOfMemory}
-use Rattle.job_record.specs.Tables.{record_with}
 use Rattle.job_record.specs.Archives.{archives_text, archive_columns, IsArchiveIn, IsNoArchive, AreArchivesIn}
 use Rattle.job_record.specs.RecordMap.{ListsArchives}
 use Rattle.job_record.specs.Map.{KeyMap, HoldsMap, IsRecord, Stands, ArchivesIn}
@@ -36,14 +34,17 @@ use Rattle.job_record.specs.OpenMap.{IsFirst}
 use Rattle.job_record.specs.Seen.{SeesNone}
 use Rattle.job_record.specs.inner.Crash.{RunsOpen}
 use Rattle.job_record.specs.inner.Inside.{number_in}
-use Rattle.job_record.proofs.Compiled.{archives_project, archives_query, archives_is, archives_plain, archives_absent}
-use Rattle.job_record.proofs.Looking.{row_archive, ordered, order, outs, answer, shown_are, sorted_are, kept_are, out_archive, archive_out, rising_above}
+use Rattle.job_record.specs.Commands.{archive_project, archives_on}
+use Rattle.job_record.proofs.ArchiveMade.{archive_free}
+use Rattle.job_record.proofs.Compiled.{archives_is, archives_plain, archives_absent}
+use Rattle.job_record.proofs.Looking.{row_archive, order, outs, answer, shown_are, sorted_are, kept_are, out_archive, archive_out, rising_above}
 use Rattle.job_record.proofs.MapSteps.{same_shows, undone_stands}
 use Rattle.job_record.proofs.Queries.{shown_same, failed_same}
 use Rattle.job_record.proofs.RisingUses.{counts, at_most_one, IsFirstAfter, uses, sorted_rise, same_list, used_tells}
 use Rattle.job_record.proofs.SafeCalls.{reads_safe}
 use Rattle.job_record.proofs.Seen.{first_undone}
 use Rattle.job_record.proofs.Shown.{passes, chosen, overlay_none}
+use Rattle.job_record.proofs.Standing.{archives_at}
 
 -- ---- archives that are read one after another
 
@@ -87,16 +88,16 @@ read_twice (o ∷ os) = ap (λ (l : List Archive). read o.1 ∷ l) (read_twice o
 
 -- ---- the query on all archives
 
-module _ (old : State) (map : KeyMap) (it : HoldsMap old.now map) (all : List Columns) (sure : IsSureAnswer archives_query (overlay old.now.trees []) [] all) where
+module _ (old : State) (map : KeyMap) (it : HoldsMap old.now map) (all : List Columns) (sure : IsSureAnswer (archives_on (archives_at map)) (overlay old.now.trees []) [] all) where
   abbrev os : List Output
-  os = outs old map it archives_project false all sure
+  os = outs old map it archive_project false all sure
 
   abbrev read_out : Output → Archive
   read_out o = read o.1
 
   out_read : (o : Output) → Has os o → Has map.archives (read_out o) × (o.0 ≡ Int (pos (read_out o).used) ∷ []) × (o.1 ≡ archive_columns (read_out o))
   out_read o h =
-      let a = out_archive old map it archives_project false all sure o h in
+      let a = out_archive old map it archive_project false all sure o h in
       let own : a.0 ≡ read_out o = sym (ap read_out a.3 ∙ read_columns a.0) in (
         subst (Has map.archives) own a.1,
         ap (λ (p : Output). p.0) a.3 ∙ ap (λ (z : Archive). Int (pos z.used) ∷ []) own,
@@ -105,8 +106,8 @@ module _ (old : State) (map : KeyMap) (it : HoldsMap old.now map) (all : List Co
 
   read_has : (a : Archive) → Has map.archives a → Has (mapped read_out os) a
   read_has a h =
-      let o = archive_out old map it archives_project false all sure a h in
-      subst (Has (mapped read_out os)) (read_columns a) (mapped_has read_out os (output archives_query ([] ∷ (o.0 ∷ archive_columns a) ∷ [])) o.1)
+      let o = archive_out old map it archive_project false all sure a h in
+      subst (Has (mapped read_out os)) (read_columns a) (mapped_has read_out os (output (archives_on (archives_at map)) ([] ∷ (o.0 ∷ archive_columns a) ∷ [])) o.1)
 
   has_read : (a : Archive) → Has (mapped read_out os) a → Has map.archives a
   has_read a h = let o = has_mapped read_out os a h in subst (Has map.archives) (sym o.2) (out_read o.0 o.1).0
@@ -115,7 +116,7 @@ module _ (old : State) (map : KeyMap) (it : HoldsMap old.now map) (all : List Co
   row_use : Columns → ℕ
   row_use r = number_in (column r 3)
 
-  use_tells : (n : ℕ) (a b : Columns) → Has (old.now.trees 4) a → Has (old.now.trees 4) b → row_use a ≡ n → row_use b ≡ n → a ≡ b
+  use_tells : (n : ℕ) (a b : Columns) → Has (old.now.trees (archives_at map)) a → Has (old.now.trees (archives_at map)) b → row_use a ≡ n → row_use b ≡ n → a ≡ b
   unfolding row_use
   use_tells n a b p q own other =
       let x = row_archive old map it a p in
@@ -125,26 +126,26 @@ module _ (old : State) (map : KeyMap) (it : HoldsMap old.now map) (all : List Co
       it.kept.keys a b p q (ap (λ (z : Columns). column z 1) x.2 ∙ ap (λ (z : Archive). Text z.key) same ∙ sym (ap (λ (z : Columns). column z 1) y.2))
 
   rows_count : (n : ℕ) (rows : List Columns)
-      → sum_by (uses read_out n) (mapped (output archives_query) (chosen (passes [] []) (λ (z : Columns). [] ∷ z ∷ []) rows)) ≡ sum_by (counts row_use n) rows
+      → sum_by (uses read_out n) (mapped (output (archives_on (archives_at map))) (chosen (passes [] []) (λ (z : Columns). [] ∷ z ∷ []) rows)) ≡ sum_by (counts row_use n) rows
   unfolding row_use
   rows_count n [] = refl
   rows_count n (r ∷ rows) =
-      sum_by-cons (uses read_out n) (output archives_query ([] ∷ r ∷ [])) (mapped (output archives_query) (chosen (passes [] []) (λ (z : Columns). [] ∷ z ∷ []) rows))
+      sum_by-cons (uses read_out n) (output (archives_on (archives_at map)) ([] ∷ r ∷ [])) (mapped (output (archives_on (archives_at map))) (chosen (passes [] []) (λ (z : Columns). [] ∷ z ∷ []) rows))
       ∙ ap (λ m. counts row_use n r + m) (rows_count n rows) ∙ sym (sum_by-cons (counts row_use n) r rows)
 
   once : (n : ℕ) → sum_by (uses read_out n) os ≤ 1
   once n =
       let f = uses read_out n in
       let db = old.now.trees in
-      let order = order old map it archives_project false all in
-      let moved : sum_by f os ≡ sum_by f (answer archives_project order db all sure).kept = sum_by-IsPermutation f _ _ (answer archives_project order db all sure).same in
-      let kept = ap (sum_by f) (kept_are archives_project order db all sure) in
-      let rows = rows_count n (overlay db [] 4) in
-      let at = ap (sum_by (counts row_use n)) (overlay_none db 4) in
-      subst (λ m. m ≤ 1) (sym (moved ∙ kept ∙ rows ∙ at)) (at_most_one row_use n (db 4) it.ordered (use_tells n))
+      let order = order old map it archive_project false all in
+      let moved : sum_by f os ≡ sum_by f (answer (archives_at map) archive_project order db all sure).kept = sum_by-IsPermutation f _ _ (answer (archives_at map) archive_project order db all sure).same in
+      let kept = ap (sum_by f) (kept_are (archives_at map) archive_project order db all sure) in
+      let rows = rows_count n (overlay db [] (archives_at map)) in
+      let at = ap (sum_by (counts row_use n)) (overlay_none db (archives_at map)) in
+      subst (λ m. m ≤ 1) (sym (moved ∙ kept ∙ rows ∙ at)) (at_most_one row_use n (db (archives_at map)) it.ordered (use_tells n))
 
   rising : AreRising 0 (mapped read_out os)
-  rising = sorted_rise read_out 0 os (λ o h. (out_read o h).1) (sorted_are archives_project (order old map it archives_project false all) old.now.trees all sure) once (first os (λ o h. h))
+  rising = sorted_rise read_out 0 os (λ o h. (out_read o h).1) (sorted_are (archives_at map) archive_project (order old map it archive_project false all) old.now.trees all sure) once (first os (λ o h. h))
     where
       first : (some : List Output) → ((o : Output) → Has some o → Has os o) → IsFirstAfter read_out 0 some
       first [] within = tt
@@ -152,13 +153,13 @@ module _ (old : State) (map : KeyMap) (it : HoldsMap old.now map) (all : List Co
 
   pub archives_are : (xs : List Archive) → AreArchivesIn all xs → xs ≡ map.archives
   archives_are xs are =
-      all_read all xs are ∙ ap (mapped read) (shown_are archives_project (order old map it archives_project false all) old.now.trees all sure) ∙ read_twice os
+      all_read all xs are ∙ ap (mapped read) (shown_are (archives_at map) archive_project (order old map it archive_project false all) old.now.trees all sure) ∙ read_twice os
       ∙ same_list 0 0 (mapped read_out os) map.archives rising it.archives.rising has_read read_has
 
   -- each of them reads
   pub columns_read : (c : Columns) → Has all c → IsNoArchive c → ⊥
   columns_read c h none =
-      let o = has_mapped (λ (k : Output). k.1) os c (subst (λ l. Has l c) (shown_are archives_project (order old map it archives_project false all) old.now.trees all sure) h) in
+      let o = has_mapped (λ (k : Output). k.1) os c (subst (λ l. Has l c) (shown_are (archives_at map) archive_project (order old map it archive_project false all) old.now.trees all sure) h) in
       let r = out_read o.0 o.1 in
       let is : c ≡ archive_columns (read_out o.0) = o.2 ∙ r.2 in
       none (read_out o.0) (record {
@@ -173,20 +174,23 @@ module _ (old : State) (map : KeyMap) (it : HoldsMap old.now map) (all : List Co
 module _ {S : Type 0} (g : Ghosts S) (old new : Held S) where
   module _ (it : IsRecord (state g old)) where
     is_plain : IsPlain (understood (state g old).now.schema archives_text)
-    is_plain = subst (λ (s : Schema). IsPlain (understood s archives_text)) (sym it.schema.is) (archives_plain it.schema.others)
+    is_plain = archives_plain (state g old).now.schema it.schema.tables
 
     same : (all : List Columns) → Shown archives_text [] (state g old) (state g new) all → IsUnchanged (state g old) (state g new)
     same all h = shown_same archives_text [] (state g old) (state g new) is_plain all h
 
-    sure_of : (all : List Columns) → Shown archives_text [] (state g old) (state g new) all → IsSureAnswer archives_query (overlay (state g old).now.trees []) [] all
-    sure_of all h = (reads_as archives_text [] (state g old) (state g new) (record_with it.schema.others) it.schema.is _ (archives_is it.schema.others).0 (archives_plain it.schema.others) (archives_is it.schema.others).1 all h).answer
+  sure_of : (map : KeyMap) → HoldsMap (state g old).now map → (all : List Columns) → Shown archives_text [] (state g old) (state g new) all → IsSureAnswer (archives_on (archives_at map)) (overlay (state g old).now.trees []) [] all
+  sure_of map holds all h =
+      let schema = map.beside.schema in
+      let tables = holds.has.tables in
+      (reads_as archives_text [] (state g old) (state g new) schema holds.schema _ (archives_is schema tables).0 (archives_plain schema tables) (archives_is schema tables).1 all h).answer
 
   pub archives_are_map : (result : Result (List Archive) RecordFault) → ListsArchives g old new result → IsRecord (state g old) → (map : KeyMap) → HoldsMap (state g old).now map
       → ArchivesIn map (state g old) (state g new) result
   archives_are_map (Ok xs) h it map holds =
       let u = same it h.0 h.1 in
-      (archives_are (state g old) map holds h.0 (sure_of it h.0 h.1) xs h.2, u, (same_shows (state g old) (state g new) it u).1)
-  archives_are_map (Err NotARecord) h it map holds = let c = any_has IsNoArchive h.0 h.2 in columns_read (state g old) map holds h.0 (sure_of it h.0 h.1) c.0 c.1 c.2
+      (archives_are (state g old) map holds h.0 (sure_of map holds h.0 h.1) xs h.2, u, (same_shows (state g old) (state g new) it u).1)
+  archives_are_map (Err NotARecord) h it map holds = let c = any_has IsNoArchive h.0 h.2 in columns_read (state g old) map holds h.0 (sure_of map holds h.0 h.1) c.0 c.1 c.2
   archives_are_map (Err WrongVersion) h it map holds = absurd h
   archives_are_map (Err NoRow) h it map holds = absurd h
   archives_are_map (Err UsesSpent) h it map holds = absurd h
@@ -232,7 +236,7 @@ module _ {S : Type 0} (g : Ghosts S) (old new : Held S) where
   archives_see_none result h it = sees result h
     where
       absent : understood (state g old).now.schema archives_text ≡ Err NoSuchTable
-      absent = subst (λ (s : Schema). understood s archives_text ≡ Err NoSuchTable) (sym it.schema) archives_absent
+      absent = archives_absent (state g old).now.schema (archive_free (state g old).now.schema it.schema)
 
       none : (rows : List Columns) → Shown archives_text [] (state g old) (state g new) rows → ⊥
       none rows shown = not_shown (state g old) (state g new) absent rows shown

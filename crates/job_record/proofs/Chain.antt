@@ -1,16 +1,14 @@
 -- One step after the other, and a whole transaction.
-use Rattle.std.proofs.Common.{◌≡◌, ◌⊎◌, inl, inr, true, false, Option, Ok, Err, Result, IsTrue, refl, sym, ap, subst, ◌∙◌, arith}
+use Rattle.std.proofs.Common.{◌≡◌, ◌⊎◌, inl, inr, true, false, Ok, Err, Result, IsTrue, refl, sym, ap, subst, ◌∙◌, arith}
 use Rattle.std.specs.Prelude.{IsOk}
 use Rattle.sqlite.specs.Store.{Ghosts}
 use Rattle.sqlite.specs.Tree.{Trees}
-use Rattle.sqlite.specs.Schema.{Schema}
 use Rattle.sqlite.specs.Effect.{Database, IsDatabase}
-use Rattle.sqlite.specs.State.{State, HasCleanDisk, KeepsCommit, IsRolledBack, Survives}
+use Rattle.sqlite.specs.State.{State, HasCleanDisk, KeepsCommit, Survives}
 use Rattle.sqlite.specs.Held.{Held, state}
 use Rattle.sqlite.proofs.Callers.{survives_begin}
-use Rattle.sqlite.proofs.StateLemmas.{survives_then, survives_weaker}
+use Rattle.sqlite.proofs.StateLemmas.{survives_then}
 use Rattle.job_record.specs.declared.fault.RecordFault.{RecordFault}
-use Rattle.job_record.specs.Tables.{record_with}
 use Rattle.job_record.specs.Map.{KeyMap, HoldsMap}
 use Rattle.job_record.specs.Opening.{begun}
 use Rattle.job_record.specs.inner.Inside.{GoesOn, IsOfStore, Answer, Steps, Walks, WalksOn, Changes, LeavesBy, CrashesBy, IsStored, Spares, Ends}
@@ -105,10 +103,10 @@ walk_later P old new Given Told Why result one = (one.0, λ clean going p. one.1
 
 -- ---- a whole transaction
 
-pub left_trees : (db : Database) (trees : Trees) (map : KeyMap) → trees ≡ db.trees → HoldsMap db map → HoldsMap (record { schema = record_with map.beside.schema; trees = trees }) map
-left_trees db trees map same it = subst (λ t. HoldsMap (record { schema = record_with map.beside.schema; trees = t }) map) (sym same) (record {
+pub left_trees : (db : Database) (trees : Trees) (map : KeyMap) → trees ≡ db.trees → HoldsMap db map → HoldsMap (record { schema = map.beside.schema; trees = trees }) map
+left_trees db trees map same it = subst (λ t. HoldsMap (record { schema = map.beside.schema; trees = t }) map) (sym same) (record {
   schema = refl;
-  apart = it.apart;
+  has = it.has;
   beside = it.beside;
   sound = subst (λ s. IsDatabase (record { schema = s; trees = db.trees })) it.schema it.sound;
   keyed = it.keyed;

@@ -1,351 +1,257 @@
--- What the statements of the record compile to, if the store holds its tables.
-use Rattle.std.proofs.Common.{◌≡◌, ℕ, pos, negsuc, List, [], ◌∷◌, codes, true, false, Some, None, Ok, Err, refl}
-use Rattle.sqlite.specs.Collation.TheVariants.{Binary}
-use Rattle.sqlite_value.specs.declared.keys.Key.{Key}
-use Rattle.sqlite_value.specs.Keys.{ascending}
-use Rattle.sqlite.specs.declared.types.Value.TheVariants.{Null, Int, Text}
-use Rattle.sqlite.specs.Term.{Term, lit, col, op2}
-use Rattle.sqlite_sql.specs.declared.ops.BinaryOp.TheVariants.{Compare}
-use Rattle.sqlite_sql.specs.declared.ops.CompareOp.TheVariants.{Eq}
-use Rattle.sqlite.specs.Query.{Query, inner, end}
+-- What the statements of the record compile to, in a store that has its tables and while these are made.
+use Rattle.std.proofs.Common.{◌≡◌, ℕ, List, [], ◌∷◌, codes, false, Result, Ok, Err, refl, sym, ap, subst, ◌∙◌}
 use Rattle.sqlite.specs.Schema.{Schema}
-use Rattle.sqlite.specs.Source.TheVariants.{Values}
-use Rattle.sqlite_resolve.specs.declared.error.CompileError.TheVariants.{NoSuchTable}
+use Rattle.sqlite.specs.Table.{Table}
 use Rattle.sqlite.specs.Command.{Command}
-use Rattle.sqlite.specs.Command.TheVariants.{Insert, InsertOr, Update, Delete, CreateTable, Select}
-use Rattle.sqlite_schema.specs.declared.command.Conflict.TheVariants.{Abort}
-use Rattle.sqlite.specs.Change.{created}
+use Rattle.sqlite.specs.Command.TheVariants.{CreateTable}
 use Rattle.sqlite.specs.Compile.{table_defined_by}
 use Rattle.sqlite.specs.Listing.{understood, reads_listing, listing_schema}
 use Rattle.sqlite.proofs.Callers.{IsPlain, command_of, statement_of}
+use Rattle.sqlite_resolve.specs.declared.compiled.Compiled.{Compiled}
+use Rattle.sqlite_resolve.specs.declared.error.CompileError.{CompileError}
+use Rattle.sqlite_resolve.specs.declared.error.CompileError.TheVariants.{NoSuchTable}
 use Rattle.sqlite_tied.specs.Compute.{everything}
 use Rattle.job_record.specs.Statements.{make_meta, make_job, note_version, version_text, find_text, list_text, put_text, drop_archive_text, forget_text}
 use Rattle.job_record.specs.Archives.{make_archive, look_text, greatest_text, oldest_text, bytes_text, all_bytes_text, add_text, use_text, remove_text, archives_text, archived_text, renote_version}
-use Rattle.job_record.specs.Tables.{meta_at, job_at, archive_at, no_schema, first_schema, record_schema, record_with}
+use Rattle.job_record.specs.Tables.{meta_at, job_at, archive_at}
+use Rattle.job_record.specs.Places.{meta_place, meta_tree, job_place, job_tree, archive_place, archive_tree, HasTables, HasFirst}
+use Rattle.job_record.specs.Commands.{IsUnderstoodAs, Compiles, selects, updates, deletes, names, find_on, list_on, drop_on, forget_on, put_at, archived_on, archive_names, archives_on, greatest_on, oldest_on, bytes_on, all_bytes_on, use_on, add_at, version_on, note_at, renote_on}
+use Rattle.job_record.proofs.CommandsRead.{list_is as list_there, version_is as version_there}
+use Rattle.job_record.proofs.CommandsThere.{compiles}
+use Rattle.job_record.proofs.Unknown.{no_schema, IsUnknown, unknown_same}
 
-abbrev pub query_on : ℕ → List Term → List Term → List (Term × Key) → Query
-query_on tree filter project order = record {
-  from = inner tree end;
-  filter = filter;
-  group = None;
-  project = project;
-  distinct = false;
-  collations = [];
-  order = order;
-  limit = lit (Int (negsuc 0));
-  offset = lit (Int (pos 0));
-}
+-- ---- what is understood as a command compiles to it
 
--- on the table of the rows
-abbrev pub query : List Term → List Term → List (Term × Key) → Query
-query = query_on 2
+module _ {schema : Schema} {text : List ℕ} {command : Command} (h : IsUnderstoodAs schema text command) where
+  is : command_of (understood schema text) ≡ command
+  is = ap command_of h.is ∙ h.command_is
 
-abbrev pub has_key : List Term
-has_key = op2 (Compare Eq Binary) (col 1 1) (col 0 0) ∷ []
+  plain : IsPlain (understood schema text)
+  plain = subst IsPlain (sym h.is) (h.returning, h.formats)
 
-abbrev pub columns : List Term
-columns = col 1 1 ∷ col 1 2 ∷ col 1 3 ∷ col 1 4 ∷ col 1 5 ∷ []
+  reads : (command_of (understood schema text) ≡ command) × (reads_listing schema text ≡ false)
+  reads = (is, h.own)
 
-abbrev pub names : List (List ℕ)
-names = codes "key" ∷ codes "outputs" ∷ codes "files" ∷ codes "cost" ∷ codes "archived" ∷ []
+module _ (schema : Schema) (h : HasTables schema) where
+  law : Compiles schema
+  law = compiles schema h
 
-abbrev pub find_query : Query
-find_query = query has_key columns []
+  pub find_is : (command_of (understood schema find_text) ≡ selects (find_on (job_tree schema)) names) × (reads_listing schema find_text ≡ false)
+  find_is = reads law.find
 
-abbrev pub list_query : Query
-list_query = query [] columns ((col 1 1, ascending Binary) ∷ [])
+  pub find_plain : IsPlain (understood schema find_text)
+  find_plain = plain law.find
 
-abbrev pub drop_project : List Term
-drop_project = col 1 0 ∷ col 1 0 ∷ col 1 1 ∷ col 1 2 ∷ col 1 3 ∷ col 1 4 ∷ lit (Int (pos 0)) ∷ []
+  pub list_is : (command_of (understood schema list_text) ≡ selects (list_on (job_tree schema)) names) × (reads_listing schema list_text ≡ false)
+  list_is = reads law.list
 
-abbrev pub drop_query : Query
-drop_query = query has_key drop_project []
+  pub list_plain : IsPlain (understood schema list_text)
+  list_plain = plain law.list
 
-abbrev pub forget_project : List Term
-forget_project = col 1 0 ∷ []
+  pub greatest_is : (command_of (understood schema greatest_text) ≡ selects (greatest_on (archive_tree schema)) (codes "used" ∷ [])) × (reads_listing schema greatest_text ≡ false)
+  greatest_is = reads law.greatest
 
-abbrev pub forget_query : Query
-forget_query = query has_key forget_project []
+  pub greatest_plain : IsPlain (understood schema greatest_text)
+  greatest_plain = plain law.greatest
 
-abbrev pub replace_tests : List Term
-replace_tests = op2 (Compare Eq Binary) (col 1 0) (col 0 5) ∷ []
+  pub oldest_is : (command_of (understood schema oldest_text) ≡ selects (oldest_on (archive_tree schema)) (codes "key" ∷ codes "bytes" ∷ [])) × (reads_listing schema oldest_text ≡ false)
+  oldest_is = reads law.oldest
 
-abbrev pub replace_project : List Term
-replace_project = col 1 0 ∷ col 1 0 ∷ col 1 1 ∷ col 0 1 ∷ col 0 2 ∷ col 0 3 ∷ col 0 4 ∷ []
+  pub oldest_plain : IsPlain (understood schema oldest_text)
+  oldest_plain = plain law.oldest
 
-abbrev pub replace_query : Query
-replace_query = query replace_tests replace_project []
+  pub bytes_is : (command_of (understood schema bytes_text) ≡ selects (bytes_on (archive_tree schema)) (codes "bytes" ∷ [])) × (reads_listing schema bytes_text ≡ false)
+  bytes_is = reads law.bytes
 
-abbrev pub put_command : Command
-put_command =
-    InsertOr 1 Abort (Values (lit Null ∷ col 0 0 ∷ col 0 1 ∷ col 0 2 ∷ col 0 3 ∷ col 0 4 ∷ []) 6) (record { target = Some (1 ∷ []); update = Some (record { lets = []; body = replace_query }) } ∷ [])
+  pub bytes_plain : IsPlain (understood schema bytes_text)
+  bytes_plain = plain law.bytes
 
-pub meta_is : table_defined_by make_meta ≡ Ok (meta_at 0)
+  pub all_bytes_is : (command_of (understood schema all_bytes_text) ≡ selects (all_bytes_on (archive_tree schema)) (codes "bytes" ∷ [])) × (reads_listing schema all_bytes_text ≡ false)
+  all_bytes_is = reads law.all_bytes
+
+  pub all_bytes_plain : IsPlain (understood schema all_bytes_text)
+  all_bytes_plain = plain law.all_bytes
+
+  pub archives_is : (command_of (understood schema archives_text) ≡ selects (archives_on (archive_tree schema)) archive_names) × (reads_listing schema archives_text ≡ false)
+  archives_is = reads law.archives
+
+  pub archives_plain : IsPlain (understood schema archives_text)
+  archives_plain = plain law.archives
+
+  pub put_is : command_of (understood schema put_text) ≡ put_at (job_place schema) (job_tree schema)
+  put_is = is law.put
+
+  pub put_plain : IsPlain (understood schema put_text)
+  put_plain = plain law.put
+
+  pub drop_is : command_of (understood schema drop_archive_text) ≡ updates (job_place schema) (drop_on (job_tree schema))
+  drop_is = is law.drop_archive
+
+  pub drop_plain : IsPlain (understood schema drop_archive_text)
+  drop_plain = plain law.drop_archive
+
+  pub forget_is : command_of (understood schema forget_text) ≡ deletes (job_place schema) (forget_on (job_tree schema))
+  forget_is = is law.forget
+
+  pub forget_plain : IsPlain (understood schema forget_text)
+  forget_plain = plain law.forget
+
+  pub add_is : command_of (understood schema add_text) ≡ add_at (archive_place schema)
+  add_is = is law.add
+
+  pub add_plain : IsPlain (understood schema add_text)
+  add_plain = plain law.add
+
+  pub use_is : command_of (understood schema use_text) ≡ updates (archive_place schema) (use_on (archive_tree schema))
+  use_is = is law.«use»
+
+  pub use_plain : IsPlain (understood schema use_text)
+  use_plain = plain law.«use»
+
+  pub remove_is : command_of (understood schema remove_text) ≡ deletes (archive_place schema) (forget_on (archive_tree schema))
+  remove_is = is law.remove
+
+  pub remove_plain : IsPlain (understood schema remove_text)
+  remove_plain = plain law.remove
+
+  pub note_is : command_of (understood schema note_version) ≡ note_at (meta_place schema)
+  note_is = is law.note_version
+
+  pub note_plain : IsPlain (understood schema note_version)
+  note_plain = plain law.note_version
+
+  pub version_plain : IsPlain (understood schema version_text)
+  version_plain = plain law.version
+
+  pub look_plain : IsPlain (understood schema look_text)
+  look_plain = plain law.look
+
+  pub archived_is : (command_of (understood schema archived_text) ≡ selects (archived_on (job_tree schema)) (codes "key" ∷ codes "files" ∷ [])) × (reads_listing schema archived_text ≡ false)
+  archived_is = reads law.archived
+
+  pub archived_plain : IsPlain (understood schema archived_text)
+  archived_plain = plain law.archived
+
+  pub renote_is : command_of (understood schema renote_version) ≡ updates (meta_place schema) (renote_on (meta_tree schema))
+  renote_is = is law.renote_version
+
+  pub renote_plain : IsPlain (understood schema renote_version)
+  renote_plain = plain law.renote_version
+
+-- ---- a table is made in a store where its name is free
+
+-- the text makes this table
+pub record IsMaking (text : List ℕ) (table : Table) (r : Result Compiled CompileError) : Type 0 where
+  pub is : command_of r ≡ CreateTable
+  pub plain : IsPlain r
+  pub defines : table_defined_by (statement_of text r) ≡ Ok table
+
+meta_alone : IsMaking make_meta (meta_at 0) (understood no_schema make_meta)
+unfolding understood everything
+meta_alone = record { is = refl; plain = (refl, refl); defines = refl }
+
+job_alone : IsMaking make_job (job_at 0) (understood no_schema make_job)
+unfolding understood everything
+job_alone = record { is = refl; plain = (refl, refl); defines = refl }
+
+archive_alone : IsMaking make_archive (archive_at 0) (understood no_schema make_archive)
+unfolding understood everything
+archive_alone = record { is = refl; plain = (refl, refl); defines = refl }
+
+pub makes_meta : (schema : Schema) → IsUnknown schema (codes "meta") → IsMaking make_meta (meta_at 0) (understood schema make_meta)
 unfolding everything
-meta_is = refl
+makes_meta schema free = subst (IsMaking make_meta (meta_at 0)) (sym (unknown_same schema (meta_at 0) make_meta free)) meta_alone
 
-pub job_is : table_defined_by make_job ≡ Ok (job_at 0)
+pub makes_job : (schema : Schema) → IsUnknown schema (codes "job") → IsMaking make_job (job_at 0) (understood schema make_job)
 unfolding everything
-job_is = refl
+makes_job schema free = subst (IsMaking make_job (job_at 0)) (sym (unknown_same schema (job_at 0) make_job free)) job_alone
 
-pub archive_is : table_defined_by make_archive ≡ Ok (archive_at 0)
+pub makes_archive : (schema : Schema) → IsUnknown schema (codes "archive") → IsMaking make_archive (archive_at 0) (understood schema make_archive)
 unfolding everything
-archive_is = refl
+makes_archive schema free = subst (IsMaking make_archive (archive_at 0)) (sym (unknown_same schema (archive_at 0) make_archive free)) archive_alone
 
-pub first_is : created (created no_schema (meta_at 0)) (job_at 0) ≡ first_schema
-first_is = refl
+-- ---- a record of version 1
 
-pub schema_is : created first_schema (archive_at 0) ≡ record_schema
-schema_is = refl
+module _ (schema : Schema) (h : HasFirst schema) where
+  version_law : IsUnderstoodAs schema version_text (selects (version_on (meta_tree schema)) (codes "value" ∷ []))
+  version_law = version_there schema (meta_place schema) (meta_tree schema) h.meta
 
-pub find_is : (others : Schema) → (command_of (understood (record_with others) find_text) ≡ Select (record { lets = []; body = find_query }) names) × (reads_listing (record_with others) find_text ≡ false)
-unfolding understood everything
-find_is others = (refl, refl)
+  list_law : IsUnderstoodAs schema list_text (selects (list_on (job_tree schema)) names)
+  list_law = list_there schema (job_place schema) (job_tree schema) h.job
 
-pub list_is : (others : Schema) → (command_of (understood (record_with others) list_text) ≡ Select (record { lets = []; body = list_query }) names) × (reads_listing (record_with others) list_text ≡ false)
-unfolding understood everything
-list_is others = (refl, refl)
+  pub version_first_is : (command_of (understood schema version_text) ≡ selects (version_on (meta_tree schema)) (codes "value" ∷ [])) × (reads_listing schema version_text ≡ false)
+  version_first_is = reads version_law
 
-pub drop_is : (others : Schema) → command_of (understood (record_with others) drop_archive_text) ≡ Update 1 (record { lets = []; body = drop_query })
-unfolding understood everything
-drop_is others = refl
+  pub version_first : IsPlain (understood schema version_text)
+  version_first = plain version_law
 
-pub forget_is : (others : Schema) → command_of (understood (record_with others) forget_text) ≡ Delete 1 (record { lets = []; body = forget_query })
-unfolding understood everything
-forget_is others = refl
+  pub list_first_is : (command_of (understood schema list_text) ≡ selects (list_on (job_tree schema)) names) × (reads_listing schema list_text ≡ false)
+  list_first_is = reads list_law
 
-pub put_is : (others : Schema) → command_of (understood (record_with others) put_text) ≡ put_command
-unfolding understood everything
-put_is others = refl
+  pub list_first : IsPlain (understood schema list_text)
+  list_first = plain list_law
 
-pub find_plain : (others : Schema) → IsPlain (understood (record_with others) find_text)
-unfolding understood everything
-find_plain others = (refl, refl)
+-- ---- a table that is not there
 
-pub list_plain : (others : Schema) → IsPlain (understood (record_with others) list_text)
-unfolding understood everything
-list_plain others = (refl, refl)
-
-pub drop_plain : (others : Schema) → IsPlain (understood (record_with others) drop_archive_text)
-unfolding understood everything
-drop_plain others = (refl, refl)
-
-pub forget_plain : (others : Schema) → IsPlain (understood (record_with others) forget_text)
-unfolding understood everything
-forget_plain others = (refl, refl)
-
-pub put_plain : (others : Schema) → IsPlain (understood (record_with others) put_text)
-unfolding understood everything
-put_plain others = (refl, refl)
-
--- ---- the statements on the archives
-
-abbrev pub greatest_query : Query
-greatest_query = query_on 4 [] (col 1 3 ∷ []) ((col 1 3, record { collation = Binary; descending = true }) ∷ [])
-
-abbrev pub oldest_query : Query
-oldest_query = query_on 4 [] (col 1 1 ∷ col 1 2 ∷ []) ((col 1 3, ascending Binary) ∷ [])
-
-abbrev pub bytes_query : Query
-bytes_query = query_on 4 has_key (col 1 2 ∷ []) []
-
-abbrev pub all_bytes_query : Query
-all_bytes_query = query_on 4 [] (col 1 2 ∷ []) []
-
-abbrev pub use_project : List Term
-use_project = col 1 0 ∷ col 1 0 ∷ col 1 1 ∷ col 1 2 ∷ col 0 1 ∷ []
-
-abbrev pub add_row : List Term
-add_row = lit Null ∷ col 0 0 ∷ col 0 1 ∷ col 0 2 ∷ []
-
-pub greatest_is : (others : Schema) → (command_of (understood (record_with others) greatest_text) ≡ Select (record { lets = []; body = greatest_query }) (codes "used" ∷ [])) × (reads_listing (record_with others) greatest_text ≡ false)
-unfolding understood everything
-greatest_is others = (refl, refl)
-
-pub greatest_plain : (others : Schema) → IsPlain (understood (record_with others) greatest_text)
-unfolding understood everything
-greatest_plain others = (refl, refl)
-
-pub oldest_is : (others : Schema) → (command_of (understood (record_with others) oldest_text) ≡ Select (record { lets = []; body = oldest_query }) (codes "key" ∷ codes "bytes" ∷ [])) × (reads_listing (record_with others) oldest_text ≡ false)
-unfolding understood everything
-oldest_is others = (refl, refl)
-
-pub oldest_plain : (others : Schema) → IsPlain (understood (record_with others) oldest_text)
-unfolding understood everything
-oldest_plain others = (refl, refl)
-
-pub bytes_is : (others : Schema) → (command_of (understood (record_with others) bytes_text) ≡ Select (record { lets = []; body = bytes_query }) (codes "bytes" ∷ [])) × (reads_listing (record_with others) bytes_text ≡ false)
-unfolding understood everything
-bytes_is others = (refl, refl)
-
-pub bytes_plain : (others : Schema) → IsPlain (understood (record_with others) bytes_text)
-unfolding understood everything
-bytes_plain others = (refl, refl)
-
-pub all_bytes_is : (others : Schema) → (command_of (understood (record_with others) all_bytes_text) ≡ Select (record { lets = []; body = all_bytes_query }) (codes "bytes" ∷ [])) × (reads_listing (record_with others) all_bytes_text ≡ false)
-unfolding understood everything
-all_bytes_is others = (refl, refl)
-
-pub all_bytes_plain : (others : Schema) → IsPlain (understood (record_with others) all_bytes_text)
-unfolding understood everything
-all_bytes_plain others = (refl, refl)
-
-pub add_is : (others : Schema) → command_of (understood (record_with others) add_text) ≡ Insert 2 (Values add_row 4)
-unfolding understood everything
-add_is others = refl
-
-pub add_plain : (others : Schema) → IsPlain (understood (record_with others) add_text)
-unfolding understood everything
-add_plain others = (refl, refl)
-
-pub use_is : (others : Schema) → command_of (understood (record_with others) use_text) ≡ Update 2 (record { lets = []; body = query_on 4 has_key use_project [] })
-unfolding understood everything
-use_is others = refl
-
-pub use_plain : (others : Schema) → IsPlain (understood (record_with others) use_text)
-unfolding understood everything
-use_plain others = (refl, refl)
-
-pub remove_is : (others : Schema) → command_of (understood (record_with others) remove_text) ≡ Delete 2 (record { lets = []; body = query_on 4 has_key forget_project [] })
-unfolding understood everything
-remove_is others = refl
-
-pub remove_plain : (others : Schema) → IsPlain (understood (record_with others) remove_text)
-unfolding understood everything
-remove_plain others = (refl, refl)
-
--- ---- the statements that make the tables, each on the schema that the one before it leaves
-
-abbrev pub meta_schema : Schema
-meta_schema = created no_schema (meta_at 0)
-
-abbrev pub version_row : List Term
-version_row = lit Null ∷ lit (Text (codes "version")) ∷ lit (Int (pos 2)) ∷ []
-
-abbrev pub note_command : Command
-note_command = Insert 0 (Values version_row 3)
-
-pub make_meta_is : command_of (understood no_schema make_meta) ≡ CreateTable
-unfolding understood everything
-make_meta_is = refl
-
-pub make_meta_plain : IsPlain (understood no_schema make_meta)
-unfolding understood everything
-make_meta_plain = (refl, refl)
-
-pub make_meta_defines : table_defined_by (statement_of make_meta (understood no_schema make_meta)) ≡ Ok (meta_at 0)
-unfolding understood everything
-make_meta_defines = refl
-
-pub make_job_is : command_of (understood meta_schema make_job) ≡ CreateTable
-unfolding understood everything
-make_job_is = refl
-
-pub make_job_plain : IsPlain (understood meta_schema make_job)
-unfolding understood everything
-make_job_plain = (refl, refl)
-
-pub make_job_defines : table_defined_by (statement_of make_job (understood meta_schema make_job)) ≡ Ok (job_at 0)
-unfolding understood everything
-make_job_defines = refl
-
-pub make_archive_is : command_of (understood first_schema make_archive) ≡ CreateTable
-unfolding understood everything
-make_archive_is = refl
-
-pub make_archive_plain : IsPlain (understood first_schema make_archive)
-unfolding understood everything
-make_archive_plain = (refl, refl)
-
-pub make_archive_defines : table_defined_by (statement_of make_archive (understood first_schema make_archive)) ≡ Ok (archive_at 0)
-unfolding understood everything
-make_archive_defines = refl
-
-pub note_is : command_of (understood record_schema note_version) ≡ note_command
-unfolding understood everything
-note_is = refl
-
-pub note_plain : IsPlain (understood record_schema note_version)
-unfolding understood everything
-note_plain = (refl, refl)
-
-pub version_plain : (others : Schema) → IsPlain (understood (record_with others) version_text)
-unfolding understood everything
-version_plain others = (refl, refl)
-
-pub look_absent : understood first_schema look_text ≡ Err NoSuchTable
+version_alone : understood no_schema version_text ≡ Err NoSuchTable
 unfolding understood listing_schema everything
-look_absent = refl
+version_alone = refl
 
-pub look_plain : (others : Schema) → IsPlain (understood (record_with others) look_text)
-unfolding understood everything
-look_plain others = (refl, refl)
-
-pub version_first : IsPlain (understood first_schema version_text)
-unfolding understood everything
-version_first = (refl, refl)
-
-pub list_first : IsPlain (understood first_schema list_text)
-unfolding understood everything
-list_first = (refl, refl)
-
--- ---- the migration, on the tables of version 1 and the new one
-
-abbrev pub is_archived : List Term
-is_archived = op2 (Compare Eq Binary) (col 1 5) (lit (Int (pos 1))) ∷ []
-
-abbrev pub archived_query : Query
-archived_query = query is_archived (col 1 1 ∷ col 1 3 ∷ []) ((col 1 1, ascending Binary) ∷ [])
-
-abbrev pub is_version : List Term
-is_version = op2 (Compare Eq Binary) (col 1 1) (lit (Text (codes "version"))) ∷ []
-
-abbrev pub renote_project : List Term
-renote_project = col 1 0 ∷ col 1 0 ∷ col 1 1 ∷ lit (Int (pos 2)) ∷ []
-
-pub archived_is : (command_of (understood record_schema archived_text) ≡ Select (record { lets = []; body = archived_query }) (codes "key" ∷ codes "files" ∷ [])) × (reads_listing record_schema archived_text ≡ false)
-unfolding understood everything
-archived_is = (refl, refl)
-
-pub archived_plain : IsPlain (understood record_schema archived_text)
-unfolding understood everything
-archived_plain = (refl, refl)
-
-pub renote_is : command_of (understood record_schema renote_version) ≡ Update 0 (record { lets = []; body = query_on 0 is_version renote_project [] })
-unfolding understood everything
-renote_is = refl
-
-pub renote_plain : IsPlain (understood record_schema renote_version)
-unfolding understood everything
-renote_plain = (refl, refl)
-
-abbrev pub version_query : Query
-version_query = query_on 0 is_version (col 1 2 ∷ []) []
-
-pub version_is : (command_of (understood first_schema version_text) ≡ Select (record { lets = []; body = version_query }) (codes "value" ∷ [])) × (reads_listing first_schema version_text ≡ false)
-unfolding understood everything
-version_is = (refl, refl)
-
-pub version_absent : understood no_schema version_text ≡ Err NoSuchTable
+look_alone : understood no_schema look_text ≡ Err NoSuchTable
 unfolding understood listing_schema everything
-version_absent = refl
+look_alone = refl
 
--- ---- all archives
-
-abbrev pub archives_project : List Term
-archives_project = col 1 1 ∷ col 1 2 ∷ col 1 3 ∷ []
-
-abbrev pub archives_query : Query
-archives_query = query_on 4 [] archives_project ((col 1 3, ascending Binary) ∷ [])
-
-pub archives_is : (others : Schema) → (command_of (understood (record_with others) archives_text) ≡ Select (record { lets = []; body = archives_query }) (codes "key" ∷ codes "bytes" ∷ codes "used" ∷ [])) × (reads_listing (record_with others) archives_text ≡ false)
-unfolding understood everything
-archives_is others = (refl, refl)
-
-pub archives_plain : (others : Schema) → IsPlain (understood (record_with others) archives_text)
-unfolding understood everything
-archives_plain others = (refl, refl)
-
-pub archives_absent : understood first_schema archives_text ≡ Err NoSuchTable
+archives_alone : understood no_schema archives_text ≡ Err NoSuchTable
 unfolding understood listing_schema everything
-archives_absent = refl
+archives_alone = refl
+
+pub version_absent : (schema : Schema) → IsUnknown schema (codes "meta") → understood schema version_text ≡ Err NoSuchTable
+unfolding everything
+version_absent schema free =
+    unknown_same schema (meta_at 0) version_text (
+      free.0,
+      free.2,
+      record {
+        with_none = refl;
+        first = record { from = record { origin = refl; alias = refl; using = refl; on = refl; inner = refl }; shown = ((1, refl), tt); filter = ((0, refl), tt); group = refl; having = refl };
+        alone = refl;
+        order = tt;
+        limit = refl;
+        offset = refl;
+      },
+    )
+    ∙ version_alone
+
+pub look_absent : (schema : Schema) → IsUnknown schema (codes "archive") → understood schema look_text ≡ Err NoSuchTable
+unfolding everything
+look_absent schema free =
+    unknown_same schema (archive_at 0) look_text (
+      free.0,
+      free.2,
+      record {
+        with_none = refl;
+        first = record { from = record { origin = refl; alias = refl; using = refl; on = refl; inner = refl }; shown = ((0, refl), ((1, refl), ((2, refl), tt))); filter = tt; group = refl; having = refl };
+        alone = refl;
+        order = tt;
+        limit = refl;
+        offset = refl;
+      },
+    )
+    ∙ look_alone
+
+pub archives_absent : (schema : Schema) → IsUnknown schema (codes "archive") → understood schema archives_text ≡ Err NoSuchTable
+unfolding everything
+archives_absent schema free =
+    unknown_same schema (archive_at 0) archives_text (
+      free.0,
+      free.2,
+      record {
+        with_none = refl;
+        first = record { from = record { origin = refl; alias = refl; using = refl; on = refl; inner = refl }; shown = ((0, refl), ((1, refl), ((2, refl), tt))); filter = tt; group = refl; having = refl };
+        alone = refl;
+        order = ((2, refl), tt);
+        limit = refl;
+        offset = refl;
+      },
+    )
+    ∙ archives_alone

@@ -8,6 +8,7 @@ use Rattle.sqlite.specs.Collation.TheVariants.{Binary}
 use Rattle.sqlite.specs.declared.types.Value.{Value}
 use Rattle.sqlite.specs.declared.types.Value.TheVariants.{Int, Text}
 use Rattle.sqlite.specs.Order.{Row, column}
+use Rattle.sqlite.specs.Schema.{Schema}
 use Rattle.sqlite.specs.Effect.{Database}
 use Rattle.sqlite_sql.specs.Ops.{binary, truth, is_true, is_false, from_truth, or3}
 use Rattle.sqlite_sql.specs.declared.ops.BinaryOp.TheVariants.{Compare, Or}
@@ -15,13 +16,14 @@ use Rattle.sqlite_sql.specs.declared.ops.CompareOp.TheVariants.{Eq}
 use Rattle.sqlite_schema.specs.Rules.{passes_checks}
 use Rattle.sqlite_schema.specs.declared.schema.Constraint.TheVariants.{Check}
 use Rattle.sqlite_rules.specs.Lists.{Has}
-use Rattle.sqlite_rules.proofs.ListLemmas.{all_has}
 use Rattle.job_record.specs.Tables.{job_at}
-use Rattle.job_record.proofs.Compiled.{is_archived}
+use Rattle.job_record.specs.Places.{job_tree, job_in}
+use Rattle.job_record.specs.Commands.{is_archived}
+use Rattle.job_record.proofs.Placed.{job_there, row_passes}
 use Rattle.job_record.proofs.KeyTest.{and_true}
-use Rattle.job_record.proofs.Shapes.{Laid, laid_in}
+use Rattle.job_record.proofs.Shapes.{Laid}
 use Rattle.job_record.proofs.Shown.{passes}
-use Rattle.job_record.proofs.Standing.{AreTables}
+use Rattle.job_record.proofs.Standing.{AreTables, laid_row}
 
 -- ---- two numbers
 
@@ -71,17 +73,17 @@ within_limit n h = elim (let_through (is_eq (int_cmp n (pos 0))) (is_eq (int_cmp
   | inr one ↦ inr (equal_is n (pos 1) one)
 ]
 
-checked : (db : Database) → AreTables db → (r : Row) → Has (db.trees 2) r → passes_checks (job_at 2) r ≡ true
-checked db it r there = let checks = rw it.schema.is at (it.sound.obeys.rules Check) in all_has _ (db.trees 2) r checks.1.0 there
+checked : (schema : Schema) (db : Database) → AreTables schema db → (r : Row) → Has (db.trees (job_tree schema)) r → passes_checks (job_at 0) r ≡ true
+checked schema db it r there = row_passes schema db it.schema it.sound Check (job_in schema) (job_there schema it.has.tables) r there
 
-limit_of : (id : Value) (k o f : List ℕ) (m n : ℤ) → passes_checks (job_at 2) (id ∷ Text k ∷ Text o ∷ Text f ∷ Int m ∷ Int n ∷ []) ≡ true → not (is_false (one_or_none n)) ≡ true
+limit_of : (id : Value) (k o f : List ℕ) (m n : ℤ) → passes_checks (job_at 0) (id ∷ Text k ∷ Text o ∷ Text f ∷ Int m ∷ Int n ∷ []) ≡ true → not (is_false (one_or_none n)) ≡ true
 limit_of id k o f m n passed = (and_parts _ _ (and_parts _ _ passed).1).0
 
-pub flag_is : (db : Database) → AreTables db → (r : Row) → Has (db.trees 2) r → (column r 5 ≡ Int (pos 0)) ⊎ (column r 5 ≡ Int (pos 1))
-flag_is db it r there =
-    let laid = laid_in db it.schema it.sound r there in
+pub flag_is : (schema : Schema) (db : Database) → AreTables schema db → (r : Row) → Has (db.trees (job_tree schema)) r → (column r 5 ≡ Int (pos 0)) ⊎ (column r 5 ≡ Int (pos 1))
+flag_is schema db it r there =
+    let laid = laid_row schema db it r there in
     let flag : column r 5 ≡ Int laid.archived = ap (λ (z : Row). column z 5) laid.is in
-    let passed = subst (λ (z : Row). passes_checks (job_at 2) z ≡ true) laid.is (checked db it r there) in
+    let passed = subst (λ (z : Row). passes_checks (job_at 0) z ≡ true) laid.is (checked schema db it r there) in
     elim (within_limit laid.archived (limit_of laid.id laid.key laid.outputs laid.files laid.cost laid.archived passed)) [
       | inl none ↦ inl (flag ∙ ap Int none)
       | inr one ↦ inr (flag ∙ ap Int one)

@@ -2,16 +2,15 @@
 use Rattle.std.proofs.Common.{◌≡◌, sym}
 use Rattle.sqlite.specs.State.{State}
 use Rattle.sqlite_catalog.proofs.ReadLemmas.{lists_once}
-use Rattle.job_record.specs.Tables.{record_with}
 use Rattle.job_record.specs.Crash.{FindsAgain}
 
 pub found_again : (s : State) → FindsAgain s
 found_again s map opens sound left =
-    let same : s.now.schema ≡ record_with map.beside.schema = lists_once _ s.now.schema (record_with map.beside.schema) sound.lists left.holds.sound.lists in
+    let same : s.now.schema ≡ map.beside.schema = lists_once _ s.now.schema map.beside.schema sound.lists left.holds.sound.lists in
     record {
       holds = record {
         schema = same;
-        apart = left.holds.apart;
+        has = left.holds.has;
         beside = left.holds.beside;
         sound = sound;
         keyed = left.holds.keyed;

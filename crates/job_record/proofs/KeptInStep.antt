@@ -1,5 +1,5 @@
 -- Each change leaves the rows and the archives of a record in step.
-use Rattle.std.proofs.Common.{◌≡◌, inl, inr, ℕ, ℤ, pos, Bool, true, false, not, ◌&&◌, ◌||◌, if◌then◌else◌, List, [], ◌∷◌, ◌++◌, take, drop, Option, Some, None, option_map, bytes_eq, IsTrue, refl, sym, ap, subst, ◌∙◌, append-nil, true≢false}
+use Rattle.std.proofs.Common.{◌≡◌, inl, inr, ℕ, ℤ, pos, Bool, true, false, ◌||◌, if◌then◌else◌, List, [], ◌∷◌, ◌++◌, drop, Option, Some, None, option_map, bytes_eq, refl, sym, ap, ◌∙◌, append-nil, true≢false}
 use Rattle.std.specs.Prelude.{IsSome, find, option_to_list}
 use Rattle.std.specs.Cmp.Lexicographic.{bytes_decides}
 use Rattle.sqlite.specs.declared.types.Value.TheVariants.{Int, Text}
@@ -7,14 +7,13 @@ use Rattle.sqlite.specs.Order.{Row as Columns, column}
 use Rattle.sqlite.specs.Effect.{Database}
 use Rattle.job_rows.specs.declared.archive.Archive.{Archive}
 use Rattle.job_rows.specs.declared.row.Row.{Row}
-use Rattle.job_rows.specs.Map.{is_of, has_archive, without_archive, touched, next_used, keeps_archive, archives_with, bytes_of, lost_count, lost_for, left_for}
+use Rattle.job_rows.specs.Map.{is_of, has_archive, without_archive, touched, next_used, keeps_archive, lost_for, left_for}
 use Rattle.job_record.specs.Statements.{put_params}
 use Rattle.job_record.specs.Map.{KeyMap, HoldsMap, IsInStep, unarchived, kept_as, Change, sets, touches, unarchives, forgets, changed_by}
 use Rattle.job_record.proofs.ArchiveList.{or_none, has_append, has_other, without_own, without_absent, none_there, found_there, found_in, found_cases}
 use Rattle.job_record.proofs.Losing.{or_second, own_kept, other_kept}
 use Rattle.job_record.proofs.RowMap.{row_held}
-use Rattle.job_record.proofs.Shapes.{laid_in}
-use Rattle.job_record.proofs.Standing.{tables_of}
+use Rattle.job_record.proofs.Standing.{rows_at, tables_of, laid_row}
 
 -- the columns of a row, of which the last is its flag
 pub record Literal (c : Columns) : Type 0 where
@@ -27,8 +26,8 @@ pub record Literal (c : Columns) : Type 0 where
 
 pub literal_of : (db : Database) (map : KeyMap) → HoldsMap db map → (key : List ℕ) (c : Columns) → map.rows key ≡ Some c → Literal c
 literal_of db map it key c h =
-    let r = row_held (db.trees 2) key c (it.rows key ∙ h) in
-    let laid = laid_in db (tables_of db map it).schema it.sound r.0 r.1 in
+    let r = row_held (db.trees (rows_at map)) key c (it.rows key ∙ h) in
+    let laid = laid_row map.beside.schema db (tables_of db map it) r.0 r.1 in
     record {
       key = laid.key;
       outputs = laid.outputs;

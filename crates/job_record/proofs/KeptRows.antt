@@ -32,7 +32,7 @@ use Rattle.job_record.proofs.HeldRow.{cost_fits}
 use Rattle.job_record.proofs.KeptInStep.{Literal, literal_of}
 use Rattle.job_record.proofs.OneRow.{row_kept, unread_kept, none_kept, some_kept}
 use Rattle.job_record.proofs.Safe.{record_of}
-use Rattle.job_record.proofs.Standing.{tables_of}
+use Rattle.job_record.proofs.Standing.{held_is, tables_of}
 
 abbrev literal : (key outputs files : List ℕ) (cost archived : ℤ) → Columns
 literal key outputs files cost archived = Text key ∷ Text outputs ∷ Text files ∷ Int cost ∷ Int archived ∷ []
@@ -120,7 +120,7 @@ module _ {S : Type 0} (g : Ghosts S) (old new : Held S) (space space_after : Spa
   shown = h.rows.safe.shown
 
   has : (open_then : IsTrue before.is_open) (key : List ℕ) (o : Option Columns) → held before key ≡ o → AreKeptAs o (map.rows key)
-  has open_then key o at = subst (λ c. AreKeptAs c (map.rows key)) (sym ((shown open_then).holds.rows key) ∙ at) (is.rows key)
+  has open_then key o at = subst (λ c. AreKeptAs c (map.rows key)) (sym (held_is before columns (shown open_then).holds key) ∙ at) (is.rows key)
 
   stays : space_after ≡ space → (refused : List Change) → IsSafe after columns refused → HoldsWithin after space_after map
   stays same refused safe = record {
@@ -162,7 +162,7 @@ module _ {S : Type 0} (g : Ghosts S) (old new : Held S) (space space_after : Spa
   put_kept row open_then puts back =
       let p = puts (shown open_then) in
       let there = p.holds.rows row.key ∙ ap (λ b. if b then Some (put_params (kept_as columns.budget row)) else (if has_archive row.key (lost_for row columns.budget columns.archives) then option_map unarchived (columns.rows row.key) else columns.rows row.key)) (text_itself row.key) in
-      put_reads (kept_as columns.budget row) back (cost_fits after.now (tables_of after.now _ p.holds) (kept_as columns.budget row) there)
+      put_reads (kept_as columns.budget row) back (cost_fits _ after.now (tables_of after.now _ p.holds) (kept_as columns.budget row) there)
 
   put_map : (row : Row) → IsTrue before.is_open → IsRowOf (put_params (kept_as columns.budget row)) (kept_as columns.budget row) → IsMapOf (changed_by (sets row) columns) (rows_changed_by (sets_row row) map)
   put_map row open_then reads_as = record {

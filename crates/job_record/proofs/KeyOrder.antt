@@ -13,9 +13,9 @@ use Rattle.sqlite_rules.proofs.ProbeLemmas.{has_mapped}
 use Rattle.job_rows.specs.declared.row.Row.{Row}
 use Rattle.job_record.specs.Columns.{IsRowOf, AreRowsOf}
 use Rattle.job_record.specs.Map.{by_key}
-use Rattle.job_record.proofs.Compiled.{list_query}
+use Rattle.job_record.specs.Commands.{list_on}
 use Rattle.job_record.proofs.Shapes.{Laid}
-use Rattle.job_record.proofs.Shown.{permuted, passes, from_chosen}
+use Rattle.job_record.proofs.Shown.{permuted, passes, from_chosen, overlay_none}
 
 less_then : (o : Ordering) → is_lt (ordering_then o Equal) ≡ is_lt o
 less_then Less = refl
@@ -51,32 +51,32 @@ as_long [] (row ∷ rows) are = absurd are
 as_long (o ∷ os) [] are = absurd are
 as_long (o ∷ os) (row ∷ rows) are = let e = as_long os rows are.1 in omega arith
 
-same_order : (a b : Output) (x y : Row) → a.0 ≡ Text x.key ∷ [] → b.0 ≡ Text y.key ∷ [] → is_lt (output_cmp list_query a b) ≡ is_lt (by_key x y)
-same_order a b x y p q = rw (p, q) (less_then _ ∙ ap is_lt (value_cmp-Text x.key y.key))
+same_order : (tree : ℕ) (a b : Output) (x y : Row) → a.0 ≡ Text x.key ∷ [] → b.0 ≡ Text y.key ∷ [] → is_lt (output_cmp (list_on tree) a b) ≡ is_lt (by_key x y)
+same_order tree a b x y p q = rw (p, q) (less_then _ ∙ ap is_lt (value_cmp-Text x.key y.key))
 
-sorted_rows : (os : List Output) (rows : List Row) → ((o : Output) → Has os o → IsSortedBy o) → AreRowsOf (shown_of os) rows → IsSorted (output_cmp list_query) os → IsSorted by_key rows
-sorted_rows os rows by are sorted k e low high =
+sorted_rows : (tree : ℕ) (os : List Output) (rows : List Row) → ((o : Output) → Has os o → IsSortedBy o) → AreRowsOf (shown_of os) rows → IsSorted (output_cmp (list_on tree)) os → IsSorted by_key rows
+sorted_rows tree os rows by are sorted k e low high =
     let d : Output = ([], []) in
     let long = as_long os rows are in
     let p = keys_at os rows by are (k + 1) d e high in
     let q = keys_at os rows by are k d e (omega arith) in
-    sym (same_order (get_or os (k + 1) d) (get_or os k d) (get_or rows (k + 1) e) (get_or rows k e) p q) ∙ sorted k d low (omega arith)
+    sym (same_order tree (get_or os (k + 1) d) (get_or os k d) (get_or rows (k + 1) e) (get_or rows k e) p q) ∙ sorted k d low (omega arith)
 
-module _ (db : Trees) (laid : (r : Columns) → Has (db 2) r → Laid r) (all : List Columns) (sure : IsSureAnswer list_query (overlay db []) [] all) where
-  answer : IsAnswer list_query (overlay db []) [] all
+module _ (tree : ℕ) (db : Trees) (laid : (r : Columns) → Has (db tree) r → Laid r) (all : List Columns) (sure : IsSureAnswer (list_on tree) (overlay db []) [] all) where
+  answer : IsAnswer (list_on tree) (overlay db []) [] all
   answer = sure Null
 
   sorted_by : (o : Output) → Has answer.ordered o → IsSortedBy o
   sorted_by o h =
-      let every = matches (overlay db []) [] (inner 2 end) ([] ∷ []) in
-      let kept : answer.kept ≡ map (output list_query) every = answer.distinct ∙ ap (map (output list_query)) answer.grouped in
-      let e = has_mapped (output list_query) every o (subst (λ l. Has l o) kept (permuted answer.kept answer.ordered o answer.same h)) in
-      let r = from_chosen (passes [] []) (λ (z : Columns). [] ∷ z ∷ []) (db 2) e.0 e.1 in
-      let l = laid r.0 r.1 in
-      let is : o ≡ output list_query ([] ∷ r.0 ∷ []) = e.2 ∙ ap (output list_query) r.3 in
+      let every = matches (overlay db []) [] (inner tree end) ([] ∷ []) in
+      let kept : answer.kept ≡ map (output (list_on tree)) every = answer.distinct ∙ ap (map (output (list_on tree))) answer.grouped in
+      let e = has_mapped (output (list_on tree)) every o (subst (λ l. Has l o) kept (permuted answer.kept answer.ordered o answer.same h)) in
+      let r = from_chosen (passes [] []) (λ (z : Columns). [] ∷ z ∷ []) (overlay db [] tree) e.0 e.1 in
+      let l = laid r.0 (subst (λ l. Has l r.0) (overlay_none db tree) r.1) in
+      let is : o ≡ output (list_on tree) ([] ∷ r.0 ∷ []) = e.2 ∙ ap (output (list_on tree)) r.3 in
       let key_is : column r.0 1 ≡ Text l.key = ap (λ (z : Columns). column z 1) l.is in
       record { key = l.key; sorted = ap (λ (p : Output). p.0) is ∙ ap (λ v. v ∷ []) key_is; shown = ap (λ (p : Output). column p.1 0) is ∙ key_is }
 
   pub rows_sorted : (rows : List Row) → AreRowsOf all rows → IsSorted by_key rows
   unfolding answer
-  rows_sorted rows are = sorted_rows answer.ordered rows sorted_by (subst (λ l. AreRowsOf l rows) answer.shown are) answer.sorted
+  rows_sorted rows are = sorted_rows tree answer.ordered rows sorted_by (subst (λ l. AreRowsOf l rows) answer.shown are) answer.sorted

@@ -14,10 +14,11 @@ use Rattle.job_record.specs.declared.fault.RecordFault.TheVariants.{NotARecord, 
 use Rattle.job_record.specs.Statements.{list_text}
 use Rattle.job_record.specs.Columns.{IsText, AreKeysOf, HasNoKey}
 use Rattle.job_record.specs.RecordMap.{ListsKeys}
+use Rattle.job_record.specs.Places.{job_tree}
 use Rattle.job_record.specs.Map.{held, IsRecord, Stands, KeysIn}
 use Rattle.job_record.specs.Crash.{ReadsSafely}
 use Rattle.job_record.specs.inner.Crash.{RunsOpen}
-use Rattle.job_record.proofs.Shapes.{laid_in}
+use Rattle.job_record.proofs.Standing.{laid_row, tables_in}
 use Rattle.job_record.proofs.RowMap.{row_held, key_held}
 use Rattle.job_record.proofs.Queries.{failed_same}
 use Rattle.job_record.proofs.Reading.{list_is_plain, all_found, listed, lists_all}
@@ -63,10 +64,10 @@ module _ (old new : State) (it : IsRecord old) where
 
   begins : (key : List ℕ) (c : Columns) → held old key ≡ Some c → (column c 0 ≡ Text key) × (0 < length c)
   begins key c h =
-      let r = row_held (old.now.trees 2) key c h in
-      let laid = laid_in old.now it.schema it.sound r.0 r.1 in
+      let r = row_held (old.now.trees (job_tree old.now.schema)) key c h in
+      let laid = laid_row old.now.schema old.now (tables_in old it) r.0 r.1 in
       let is = r.3 ∙ ap (λ (z : Columns). drop 1 z) laid.is in
-      (key_held (old.now.trees 2) key c h, has_length c laid.key _ is)
+      (key_held (old.now.trees (job_tree old.now.schema)) key c h, has_length c laid.key _ is)
 
   module _ (all : List Columns) (shown : Shown list_text [] old new all) where
     held_of : (c : Columns) → Has all c → (key : List ℕ) × (held old key ≡ Some c)

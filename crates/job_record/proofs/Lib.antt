@@ -3,6 +3,7 @@ mod Adding
 mod After
 mod Answered
 pub mod ArchiveList
+mod ArchiveMade
 mod ArchiveOrder
 mod ArchiveRows
 mod ArchivesHeld
@@ -10,9 +11,13 @@ mod Asked
 mod Beside
 mod BytesRead
 mod Chain
+mod CommandsRead
+mod CommandsThere
+mod CommandsWrite
 mod Compiled
 mod Edits
 mod Files
+mod FirstTables
 mod Flagged
 mod Found
 mod FoundAgain
@@ -34,10 +39,15 @@ mod MigratedIn
 mod Numbered
 mod OneKey
 mod OneRow
+mod OneTable
+mod OneTableNamed
+mod OneTableQuery
+mod OneTableWrite
 mod OpenSafe
 mod OpenedMap
 mod Opens
 mod Ordered
+mod Placed
 mod Putting
 mod QueriedInside
 mod Queries
@@ -55,7 +65,12 @@ mod SomeRows
 mod Standing
 mod Stepping
 mod Summed
+mod TableMade
+mod TablesMade
 mod Traced
+mod Understood
+mod UnderstoodWrite
+mod Unknown
 mod Undone
 mod Walked
 mod WalkedPut

@@ -1,47 +1,42 @@
 -- What a query on the archives answers, inside a transaction.
-use Rattle.std.proofs.Common.{◌≡◌, ◌≢◌, ◌⊎◌, inl, inr, ℕ, suc, zero, ◌+◌, ◌-◌, ◌^◌, ◌<◌, ◌≤◌, min, max, ℤ, pos, negsuc, Bool, true, false, cond, if◌then◌else◌, List, [], ◌∷◌, ◌++◌, length, map, map as mapped, drop, get_or, Option, Some, None, option_map, Ok, Err, Result, IsTrue, refl, sym, ap, subst, ap₂, ◌∙◌, true≢false, arith}
-use Rattle.std.specs.Prelude.{IfOk, IfErr, Any, IsUtf8, slice_get, find, sum_by}
+use Rattle.std.proofs.Common.{◌≡◌, ◌≢◌, ◌⊎◌, inl, inr, ℕ, suc, ◌+◌, ◌-◌, ◌^◌, ◌<◌, ◌≤◌, min, pos, Bool, true, false, cond, List, [], ◌∷◌, length, map, map as mapped, drop, get_or, Option, Some, None, option_map, Ok, Err, Result, IsTrue, refl, sym, ap, subst, ap₂, ◌∙◌, true≢false, arith}
+use Rattle.std.specs.Prelude.{IfOk, IfErr, Any, IsUtf8, slice_get, sum_by}
 use Rattle.std.proofs.lemmas.List.Sorted.{IsPermutation-sym, sum_by-IsPermutation}
 use Rattle.std.proofs.lemmas.List.Sums.{sum_by-cons}
 use Rattle.sqlite.specs.declared.types.Value.{Value}
-use Rattle.sqlite.specs.declared.types.Value.TheVariants.{Null, Int, Real, Text, Blob}
+use Rattle.sqlite.specs.declared.types.Value.TheVariants.{Null, Int, Text}
 use Rattle.sqlite.specs.Order.{Row, column}
 use Rattle.sqlite.specs.Tree.{Trees}
-use Rattle.sqlite.specs.Term.{Term, col, eval_all}
+use Rattle.sqlite.specs.Term.{Term, col}
 use Rattle.sqlite.specs.Program.{overlay}
 use Rattle.sqlite.specs.Query.{Query, Output, output, output_cmp, matches, inner, end, IsAnswer, IsSureAnswer}
 use Rattle.sqlite.specs.Collation.TheVariants.{Binary}
 use Rattle.sqlite_value.specs.declared.keys.Key.{Key}
 use Rattle.std.specs.List.Sorted.{IsSorted}
-use Rattle.sqlite.specs.Command.TheVariants.{Select}
 use Rattle.sqlite.specs.declared.error.Error.{Error}
 use Rattle.sqlite.specs.declared.error.Error.TheVariants.{QueryReturnedNoRows}
-use Rattle.sqlite.specs.Clock.{timed}
-use Rattle.sqlite.specs.Effect.{Database, RefusesToRead}
-use Rattle.sqlite.specs.Listing.{understood, reads_listing}
-use Rattle.sqlite.specs.State.{State, store_error, KeepsCommit, Shows, IsUnchanged, IsRolledBack, IsNoStatement, IsNotRun, FailsToShow, FailsToQuery, ShowsRows, Shown, QueriesRow, QueriesRowInside, IsTooLate}
-use Rattle.sqlite.proofs.Callers.{IsPlain, command_of, first_as, reads_as}
+use Rattle.sqlite.specs.Listing.{understood}
+use Rattle.sqlite.specs.State.{State, store_error, KeepsCommit, IsUnchanged, IsRolledBack, IsNotRun, FailsToShow, FailsToQuery, ShowsRows, Shown, QueriesRow, QueriesRowInside, IsTooLate}
+use Rattle.sqlite.proofs.Callers.{IsPlain, first_as, reads_as}
 use Rattle.sqlite_trees.specs.declared.error.StoreError.{StoreError}
-use Rattle.sqlite_trees.specs.declared.error.StoreError.TheVariants.{OutOfMemory, Io, Corrupt, Full, Broken, Unstorable}
-use Rattle.sqlite_schema.specs.declared.program.Program.{Program}
 use Rattle.sqlite_schema.specs.declared.command.Returning.{Returning}
 use Rattle.sqlite_resolve.specs.declared.compiled.Compiled.{Compiled}
 use Rattle.sqlite_rules.specs.Lists.{Has}
 use Rattle.sqlite_rules.proofs.ProbeLemmas.{has_mapped, mapped_has}
 use Rattle.job_rows.specs.declared.archive.Archive.{Archive}
-use Rattle.job_rows.specs.Map.{is_of, has_archive, greatest_used, total_bytes, greatest_number}
+use Rattle.job_rows.specs.Map.{greatest_used, total_bytes}
 use Rattle.job_rows.specs.InStep.{AreRising}
 use Rattle.job_record.specs.declared.fault.RecordFault.{RecordFault}
 use Rattle.job_record.specs.declared.fault.RecordFault.TheVariants as fault
-use Rattle.job_record.specs.Tables.{record_with}
 use Rattle.job_record.specs.Statements.{key_params}
 use Rattle.job_record.specs.Keyed.{held_in}
 use Rattle.job_record.specs.Archives.{greatest_text, oldest_text, bytes_text, all_bytes_text, archive_columns}
 use Rattle.job_record.specs.Columns.{HasNoNumber, Misreads, IsText}
 use Rattle.job_record.specs.Map.{KeyMap, HoldsMap}
-use Rattle.job_record.specs.inner.Inside.{number_in, sum_in, GoesOn, Reads, Steps, Always, Never, IsOfStore, bytes_at, oldest_of}
+use Rattle.job_record.specs.inner.Inside.{number_in, sum_in, GoesOn, Reads, IsOfStore, bytes_at, oldest_of}
 use Rattle.job_record.proofs.ArchiveList.{IsListOf, list_of, columns_found, columns_none, find_none, find_has, total_bound}
-use Rattle.job_record.proofs.Compiled.{query_on, has_key, greatest_query, oldest_query, bytes_query, all_bytes_query, greatest_is, greatest_plain, oldest_is, oldest_plain, bytes_is, bytes_plain, all_bytes_is, all_bytes_plain}
+use Rattle.job_record.specs.Commands.{query_on, has_key}
+use Rattle.job_record.proofs.Compiled.{greatest_is, greatest_plain, oldest_is, oldest_plain, bytes_is, bytes_plain, all_bytes_is, all_bytes_plain}
 use Rattle.job_record.proofs.Chain.{goes_keeps}
 use Rattle.job_record.proofs.OneKey.{only, lacks, found_is}
 use Rattle.job_record.proofs.Queries.{no_cause, row_same, shown_same, no_rows}
@@ -49,8 +44,8 @@ use Rattle.job_record.proofs.Ordered.{most, least}
 use Rattle.job_record.proofs.Summed.{sum_archives}
 use Rattle.sqlite_rules.proofs.ListLemmas.{any_has}
 use Rattle.job_record.proofs.RowMap.{held_row, row_held}
-use Rattle.job_record.proofs.Shown.{AreShown, shown_rows, permuted, passes, chosen, from_chosen, in_chosen, overlay_none}
-use Rattle.job_record.proofs.Standing.{AreTables, tables_of, archive_texts}
+use Rattle.job_record.proofs.Shown.{shown_rows, permuted, passes, chosen, from_chosen, in_chosen, overlay_none}
+use Rattle.job_record.proofs.Standing.{archives_at, tables_of, archive_texts}
 
 -- ---- a query on any store
 
@@ -157,7 +152,7 @@ row_from (v ∷ r) c some is = ap (λ (l : Row). v ∷ l) is
 
 module _ (old : State) (map : KeyMap) (it : HoldsMap old.now map) where
   abbrev pub table : List Row
-  table = old.now.trees 4
+  table = old.now.trees (archives_at map)
 
   archives : IsListOf (held_in table) map.archives
   archives = list_of table map.archives it.archives
@@ -165,7 +160,7 @@ module _ (old : State) (map : KeyMap) (it : HoldsMap old.now map) where
   -- each row is that of an archive, and each archive has a row
   pub row_archive : (r : Row) → Has table r → (a : Archive) × Has map.archives a × (r ≡ column r 0 ∷ archive_columns a)
   row_archive r there =
-      let k = archive_texts old.now (tables_of old.now map it) r there in
+      let k = archive_texts map.beside.schema old.now (tables_of old.now map it) r there in
       let held = held_row table k.0 it.kept.keys r there k.1 in
       let a = columns_found _ map.archives archives k.0 (drop 1 r) held in
       (a.0, a.3, row_from r (archive_columns a.0) (omega arith) a.2)
@@ -182,12 +177,12 @@ module _ (key : List ℕ) (old new : State) where
   bytes_told : (c : Row) → QueriesRow bytes_text (key_params key) old new (Ok c) → (map : KeyMap) → HoldsMap old.now map → (n : ℕ) × IsTold new map c n × (Some n ≡ bytes_at key map)
   bytes_told c h map it =
       let t = tables_of old.now map it in
-      let texts = archive_texts old.now t in
-      let u = row_same bytes_text (key_params key) old new (subst (λ s. IsPlain (understood s bytes_text)) (sym it.schema) (bytes_plain map.beside.schema)) c h in
-      let got = (first_as bytes_text (key_params key) old new (record_with map.beside.schema) it.schema _ (bytes_is map.beside.schema).0 (bytes_plain map.beside.schema) (bytes_is map.beside.schema).1 c h).1 in
-      let shown = shown_rows 4 has_key (col 1 2 ∷ []) [] old.now.trees (key_params key) (c ∷ got.0) got.1 in
-      let o = only (old.now.trees 4) it.kept texts key [] (col 1 2 ∷ []) c got.0 shown in
-      let found = found_is (old.now.trees 4) it.kept texts key (key_params key) (col 1 2 ∷ []) c got.0 o in
+      let texts = archive_texts map.beside.schema old.now t in
+      let u = row_same bytes_text (key_params key) old new (subst (λ s. IsPlain (understood s bytes_text)) (sym it.schema) (bytes_plain map.beside.schema it.has.tables)) c h in
+      let got = (first_as bytes_text (key_params key) old new map.beside.schema it.schema _ (bytes_is map.beside.schema it.has.tables).0 (bytes_plain map.beside.schema it.has.tables) (bytes_is map.beside.schema it.has.tables).1 c h).1 in
+      let shown = shown_rows (archives_at map) has_key (col 1 2 ∷ []) [] old.now.trees (key_params key) (c ∷ got.0) got.1 in
+      let o = only (old.now.trees (archives_at map)) it.kept texts key [] (col 1 2 ∷ []) c got.0 shown in
+      let found = found_is (old.now.trees (archives_at map)) it.kept texts key (key_params key) (col 1 2 ∷ []) c got.0 o in
       let a = columns_found _ map.archives (archives old map it) key (drop 1 o.row) found in
       let is : column o.row 2 ≡ Int (pos a.0.bytes) = after o.row 1 ∙ ap (λ (z : Row). column z 1) a.2 in
       let c_is : c ≡ Int (pos a.0.bytes) ∷ [] = o.first ∙ ap (λ v. v ∷ []) is in (
@@ -199,8 +194,8 @@ module _ (key : List ℕ) (old new : State) where
   bytes_none : Shown bytes_text (key_params key) old new [] → (map : KeyMap) → HoldsMap old.now map → None ≡ bytes_at key map
   bytes_none h map it =
       let t = tables_of old.now map it in
-      let read = reads_as bytes_text (key_params key) old new (record_with map.beside.schema) it.schema _ (bytes_is map.beside.schema).0 (bytes_plain map.beside.schema) (bytes_is map.beside.schema).1 [] h in
-      let none = lacks (old.now.trees 4) it.kept (archive_texts old.now t) key [] (col 1 2 ∷ []) (shown_rows 4 has_key (col 1 2 ∷ []) [] old.now.trees (key_params key) [] read.answer) in
+      let read = reads_as bytes_text (key_params key) old new map.beside.schema it.schema _ (bytes_is map.beside.schema it.has.tables).0 (bytes_plain map.beside.schema it.has.tables) (bytes_is map.beside.schema it.has.tables).1 [] h in
+      let none = lacks (old.now.trees (archives_at map)) it.kept (archive_texts map.beside.schema old.now t) key [] (col 1 2 ∷ []) (shown_rows (archives_at map) has_key (col 1 2 ∷ []) [] old.now.trees (key_params key) [] read.answer) in
       sym (ap (option_map (λ (archive : Archive). archive.bytes)) (find_none key map.archives (columns_none _ map.archives (archives old map it) key none)))
 
   pub bytes_row : (c : Row) → IsTrue old.in_transaction → QueriesRowInside bytes_text (key_params key) old new (Ok c) → (r : Result (Option ℕ) RecordFault)
@@ -214,8 +209,8 @@ module _ (key : List ℕ) (old new : State) where
   bytes_absent going (inl h) = (
     none_goes bytes_text (key_params key) old new going (inl h),
     λ map it given.
-        let shown = no_rows bytes_text (key_params key) old new (record_with map.beside.schema) it.schema _ _ (bytes_is map.beside.schema).0 (bytes_plain map.beside.schema) h in
-        let u = shown_same bytes_text (key_params key) old new (subst (λ s. IsPlain (understood s bytes_text)) (sym it.schema) (bytes_plain map.beside.schema)) [] shown in
+        let shown = no_rows bytes_text (key_params key) old new map.beside.schema it.schema _ _ (bytes_is map.beside.schema it.has.tables).0 (bytes_plain map.beside.schema it.has.tables) h in
+        let u = shown_same bytes_text (key_params key) old new (subst (λ s. IsPlain (understood s bytes_text)) (sym it.schema) (bytes_plain map.beside.schema it.has.tables)) [] shown in
         (map, subst (λ d. HoldsMap d map) (sym u.0.now_is) it, (refl, bytes_none shown map it)),
   )
   bytes_absent going (inr late) = absurd (true≢false (sym going ∙ late.3))
@@ -231,9 +226,9 @@ first_of row tail [] is = absurd (omega (arith, ap length is))
 first_of row tail (o ∷ os) is = (o, os, refl, cc)
 
 -- the outputs of a query on all archives
-module _ (project : List Term) (order : List (Term × Key)) (db : Trees) (rows : List Row) (sure : IsSureAnswer (query_on 4 [] project order) (overlay db []) [] rows) where
+module _ (tree : ℕ) (project : List Term) (order : List (Term × Key)) (db : Trees) (rows : List Row) (sure : IsSureAnswer (query_on tree [] project order) (overlay db []) [] rows) where
   abbrev q : Query
-  q = query_on 4 [] project order
+  q = query_on tree [] project order
 
   pub answer : IsAnswer q (overlay db []) [] rows
   answer = sure Null
@@ -242,7 +237,7 @@ module _ (project : List Term) (order : List (Term × Key)) (db : Trees) (rows :
   ordered = answer.ordered
 
   abbrev every : List (List Row)
-  every = matches (overlay db []) [] (inner 4 end) ([] ∷ [])
+  every = matches (overlay db []) [] (inner tree end) ([] ∷ [])
 
   pub kept_are : answer.kept ≡ map (output q) every
   kept_are = answer.distinct ∙ ap (map (output q)) answer.grouped
@@ -253,15 +248,16 @@ module _ (project : List Term) (order : List (Term × Key)) (db : Trees) (rows :
   pub sorted_are : IsSorted (output_cmp q) ordered
   sorted_are = answer.sorted
 
-  from_row : (o : Output) → Has ordered o → (r : Row) × Has (db 4) r × (o ≡ output q ([] ∷ r ∷ []))
+  from_row : (o : Output) → Has ordered o → (r : Row) × Has (db tree) r × (o ≡ output q ([] ∷ r ∷ []))
   from_row o h =
       let e = has_mapped (output q) every o (subst (λ l. Has l o) kept_are (permuted answer.kept ordered o answer.same h)) in
-      let r = from_chosen (passes [] []) (λ (z : Row). [] ∷ z ∷ []) (db 4) e.0 e.1 in
-      (r.0, r.1, e.2 ∙ ap (output q) r.3)
+      let r = from_chosen (passes [] []) (λ (z : Row). [] ∷ z ∷ []) (overlay db [] tree) e.0 e.1 in
+      (r.0, subst (λ l. Has l r.0) (overlay_none db tree) r.1, e.2 ∙ ap (output q) r.3)
 
-  row_in : (r : Row) → Has (db 4) r → Has ordered (output q ([] ∷ r ∷ []))
+  row_in : (r : Row) → Has (db tree) r → Has ordered (output q ([] ∷ r ∷ []))
   row_in r h =
-      let there = subst (λ l. Has l (output q ([] ∷ r ∷ []))) (sym kept_are) (mapped_has (output q) every ([] ∷ r ∷ []) (in_chosen (passes [] []) (λ (z : Row). [] ∷ z ∷ []) (db 4) r h refl)) in
+      let all = in_chosen (passes [] []) (λ (z : Row). [] ∷ z ∷ []) (overlay db [] tree) r (subst (λ l. Has l r) (sym (overlay_none db tree)) h) refl in
+      let there = subst (λ l. Has l (output q ([] ∷ r ∷ []))) (sym kept_are) (mapped_has (output q) every ([] ∷ r ∷ []) all) in
       permuted ordered answer.kept (output q ([] ∷ r ∷ [])) (IsPermutation-sym _ _ answer.same) there
 
 greatest_of : (xs : List Archive) (a : Archive) → Has xs a → ((b : Archive) → Has xs b → b.used ≤ a.used) → greatest_used xs ≡ a.used
@@ -292,27 +288,27 @@ module _ (old : State) (map : KeyMap) (it : HoldsMap old.now map) (project : Lis
   abbrev pub order : List (Term × Key)
   order = (col 1 3, record { collation = Binary; descending = down }) ∷ []
 
-  module _ (sure : IsSureAnswer (query_on 4 [] project order) (overlay old.now.trees []) [] rows) where
+  module _ (sure : IsSureAnswer (query_on (archives_at map) [] project order) (overlay old.now.trees []) [] rows) where
     abbrev pub outs : List Output
-    outs = ordered project order old.now.trees rows sure
+    outs = ordered (archives_at map) project order old.now.trees rows sure
 
     -- each output is that of an archive
-    pub out_archive : (o : Output) → Has outs o → (a : Archive) × Has map.archives a × (id : Value) × (o ≡ output (query_on 4 [] project order) ([] ∷ (id ∷ archive_columns a) ∷ []))
+    pub out_archive : (o : Output) → Has outs o → (a : Archive) × Has map.archives a × (id : Value) × (o ≡ output (query_on (archives_at map) [] project order) ([] ∷ (id ∷ archive_columns a) ∷ []))
     out_archive o h =
-        let r = from_row project order old.now.trees rows sure o h in
+        let r = from_row (archives_at map) project order old.now.trees rows sure o h in
         let a = row_archive old map it r.0 r.1 in
-        (a.0, a.1, column r.0 0, r.2 ∙ ap (λ (z : Row). output (query_on 4 [] project order) ([] ∷ z ∷ [])) a.2)
+        (a.0, a.1, column r.0 0, r.2 ∙ ap (λ (z : Row). output (query_on (archives_at map) [] project order) ([] ∷ z ∷ [])) a.2)
 
-    pub archive_out : (a : Archive) → Has map.archives a → (id : Value) × Has outs (output (query_on 4 [] project order) ([] ∷ (id ∷ archive_columns a) ∷ []))
+    pub archive_out : (a : Archive) → Has map.archives a → (id : Value) × Has outs (output (query_on (archives_at map) [] project order) ([] ∷ (id ∷ archive_columns a) ∷ []))
     archive_out a h =
         let r = archive_row old map it a h in
-        (column r.0 0, subst (λ (z : Row). Has outs (output (query_on 4 [] project order) ([] ∷ z ∷ []))) r.2 (row_in project order old.now.trees rows sure r.0 r.1))
+        (column r.0 0, subst (λ (z : Row). Has outs (output (query_on (archives_at map) [] project order) ([] ∷ z ∷ []))) r.2 (row_in (archives_at map) project order old.now.trees rows sure r.0 r.1))
 
     keys_are : (o : Output) → Has outs o → o.0 ≡ Int (pos (sorted_by o)) ∷ []
     keys_are o h = let a = out_archive o h in ap (λ (p : Output). p.0) a.3 ∙ ap (λ n. Int (pos n) ∷ []) (sym (ap sorted_by a.3))
 
     none_out : rows ≡ [] → map.archives ≡ []
-    none_out none = no_archive map.archives (λ a h. let o = archive_out a h in empty outs (output (query_on 4 [] project order) ([] ∷ (o.0 ∷ archive_columns a) ∷ [])) (sym (shown_are project order old.now.trees rows sure) ∙ none) o.1)
+    none_out none = no_archive map.archives (λ a h. let o = archive_out a h in empty outs (output (query_on (archives_at map) [] project order) ([] ∷ (o.0 ∷ archive_columns a) ∷ [])) (sym (shown_are (archives_at map) project order old.now.trees rows sure) ∙ none) o.1)
       where
         empty : (os : List Output) (o : Output) → mapped (λ (p : Output). p.1) os ≡ [] → Has os o → ⊥
         empty [] o is there = there
@@ -323,14 +319,14 @@ module _ (old : State) (map : KeyMap) (it : HoldsMap old.now map) (project : Lis
 module _ (old new : State) where
   greatest_told : (c : Row) → QueriesRow greatest_text [] old new (Ok c) → (map : KeyMap) → HoldsMap old.now map → (n : ℕ) × IsTold new map c n × (n ≡ greatest_used map.archives)
   greatest_told c h map it =
-      let u = row_same greatest_text [] old new (subst (λ s. IsPlain (understood s greatest_text)) (sym it.schema) (greatest_plain map.beside.schema)) c h in
-      let got = (first_as greatest_text [] old new (record_with map.beside.schema) it.schema _ (greatest_is map.beside.schema).0 (greatest_plain map.beside.schema) (greatest_is map.beside.schema).1 c h).1 in
+      let u = row_same greatest_text [] old new (subst (λ s. IsPlain (understood s greatest_text)) (sym it.schema) (greatest_plain map.beside.schema it.has.tables)) c h in
+      let got = (first_as greatest_text [] old new map.beside.schema it.schema _ (greatest_is map.beside.schema it.has.tables).0 (greatest_plain map.beside.schema it.has.tables) (greatest_is map.beside.schema it.has.tables).1 c h).1 in
       let project = col 1 3 ∷ [] in
       let os = outs old map it project true (c ∷ got.0) got.1 in
-      let first = first_of c got.0 os (shown_are project (order old map it project true (c ∷ got.0)) old.now.trees (c ∷ got.0) got.1) in
+      let first = first_of c got.0 os (shown_are (archives_at map) project (order old map it project true (c ∷ got.0)) old.now.trees (c ∷ got.0) got.1) in
       let a = out_archive old map it project true (c ∷ got.0) got.1 first.0 (subst (λ l. Has l first.0) (sym first.2) (inl refl)) in
       let c_is : c ≡ Int (pos a.0.used) ∷ [] = first.3 ∙ ap (λ (o : Output). o.1) a.3 in
-      let all = most os sorted_by (keys_are old map it project true (c ∷ got.0) got.1) first.0 (sorted_are project (order old map it project true (c ∷ got.0)) old.now.trees (c ∷ got.0) got.1) in
+      let all = most os sorted_by (keys_are old map it project true (c ∷ got.0) got.1) first.0 (sorted_are (archives_at map) project (order old map it project true (c ∷ got.0)) old.now.trees (c ∷ got.0) got.1) in
       let top : get_or os 0 first.0 ≡ first.0 = ap (λ l. get_or l 0 first.0) first.2 in
       let own : sorted_by first.0 ≡ a.0.used = ap sorted_by a.3 in
       let under : (b : Archive) → Has map.archives b → b.used ≤ a.0.used = λ b there.
@@ -350,9 +346,9 @@ module _ (old new : State) where
   greatest_none going (inl h) = (
     none_goes greatest_text [] old new going (inl h),
     λ map it given.
-        let shown = no_rows greatest_text [] old new (record_with map.beside.schema) it.schema _ _ (greatest_is map.beside.schema).0 (greatest_plain map.beside.schema) h in
-        let u = shown_same greatest_text [] old new (subst (λ s. IsPlain (understood s greatest_text)) (sym it.schema) (greatest_plain map.beside.schema)) [] shown in
-        let read = reads_as greatest_text [] old new (record_with map.beside.schema) it.schema _ (greatest_is map.beside.schema).0 (greatest_plain map.beside.schema) (greatest_is map.beside.schema).1 [] shown in
+        let shown = no_rows greatest_text [] old new map.beside.schema it.schema _ _ (greatest_is map.beside.schema it.has.tables).0 (greatest_plain map.beside.schema it.has.tables) h in
+        let u = shown_same greatest_text [] old new (subst (λ s. IsPlain (understood s greatest_text)) (sym it.schema) (greatest_plain map.beside.schema it.has.tables)) [] shown in
+        let read = reads_as greatest_text [] old new map.beside.schema it.schema _ (greatest_is map.beside.schema it.has.tables).0 (greatest_plain map.beside.schema it.has.tables) (greatest_is map.beside.schema it.has.tables).1 [] shown in
         let none = none_out old map it (col 1 3 ∷ []) true [] read.answer refl in
         (map, subst (λ d. HoldsMap d map) (sym u.0.now_is) it, (refl, sym (ap greatest_used none))),
   )
@@ -369,13 +365,13 @@ module _ (old new : State) where
 
   oldest_told : (c : Row) → QueriesRow oldest_text [] old new (Ok c) → (map : KeyMap) → HoldsMap old.now map → (a : Archive) × IsOldest map c a
   oldest_told c h map it =
-      let u = row_same oldest_text [] old new (subst (λ s. IsPlain (understood s oldest_text)) (sym it.schema) (oldest_plain map.beside.schema)) c h in
-      let got = (first_as oldest_text [] old new (record_with map.beside.schema) it.schema _ (oldest_is map.beside.schema).0 (oldest_plain map.beside.schema) (oldest_is map.beside.schema).1 c h).1 in
+      let u = row_same oldest_text [] old new (subst (λ s. IsPlain (understood s oldest_text)) (sym it.schema) (oldest_plain map.beside.schema it.has.tables)) c h in
+      let got = (first_as oldest_text [] old new map.beside.schema it.schema _ (oldest_is map.beside.schema it.has.tables).0 (oldest_plain map.beside.schema it.has.tables) (oldest_is map.beside.schema it.has.tables).1 c h).1 in
       let project = col 1 1 ∷ col 1 2 ∷ [] in
       let os = outs old map it project false (c ∷ got.0) got.1 in
-      let first = first_of c got.0 os (shown_are project (order old map it project false (c ∷ got.0)) old.now.trees (c ∷ got.0) got.1) in
+      let first = first_of c got.0 os (shown_are (archives_at map) project (order old map it project false (c ∷ got.0)) old.now.trees (c ∷ got.0) got.1) in
       let a = out_archive old map it project false (c ∷ got.0) got.1 first.0 (subst (λ l. Has l first.0) (sym first.2) (inl refl)) in
-      let all = least os sorted_by (keys_are old map it project false (c ∷ got.0) got.1) first.0 (sorted_are project (order old map it project false (c ∷ got.0)) old.now.trees (c ∷ got.0) got.1) in
+      let all = least os sorted_by (keys_are old map it project false (c ∷ got.0) got.1) first.0 (sorted_are (archives_at map) project (order old map it project false (c ∷ got.0)) old.now.trees (c ∷ got.0) got.1) in
       let top : get_or os 0 first.0 ≡ first.0 = ap (λ l. get_or l 0 first.0) first.2 in
       let own : sorted_by first.0 ≡ a.0.used = ap sorted_by a.3 in
       let over : (b : Archive) → Has map.archives b → a.0.used ≤ b.used = λ b there.
@@ -417,9 +413,9 @@ module _ (old new : State) where
   oldest_none going (inl h) = (
     none_goes oldest_text [] old new going (inl h),
     λ map it given.
-        let shown = no_rows oldest_text [] old new (record_with map.beside.schema) it.schema _ _ (oldest_is map.beside.schema).0 (oldest_plain map.beside.schema) h in
-        let u = shown_same oldest_text [] old new (subst (λ s. IsPlain (understood s oldest_text)) (sym it.schema) (oldest_plain map.beside.schema)) [] shown in
-        let read = reads_as oldest_text [] old new (record_with map.beside.schema) it.schema _ (oldest_is map.beside.schema).0 (oldest_plain map.beside.schema) (oldest_is map.beside.schema).1 [] shown in
+        let shown = no_rows oldest_text [] old new map.beside.schema it.schema _ _ (oldest_is map.beside.schema it.has.tables).0 (oldest_plain map.beside.schema it.has.tables) h in
+        let u = shown_same oldest_text [] old new (subst (λ s. IsPlain (understood s oldest_text)) (sym it.schema) (oldest_plain map.beside.schema it.has.tables)) [] shown in
+        let read = reads_as oldest_text [] old new map.beside.schema it.schema _ (oldest_is map.beside.schema it.has.tables).0 (oldest_plain map.beside.schema it.has.tables) (oldest_is map.beside.schema it.has.tables).1 [] shown in
         let none = none_out old map it (col 1 1 ∷ col 1 2 ∷ []) false [] read.answer refl in
         (map, subst (λ d. HoldsMap d map) (sym u.0.now_is) it, (refl, sym (ap (λ l. option_map (λ (archive : Archive). (archive.key, archive.bytes)) (slice_get l 0)) none))),
   )
@@ -431,45 +427,45 @@ module _ (old new : State) where
   bytes_of_row : Row → ℕ
   bytes_of_row r = number_in (column r 2)
 
-  sums_are : (all : List Row) (map : KeyMap) (it : HoldsMap old.now map) → IsSureAnswer (query_on 4 [] (col 1 2 ∷ []) []) (overlay old.now.trees []) [] all → sum_in all ≡ total_bytes map.archives
+  sums_are : (all : List Row) (map : KeyMap) (it : HoldsMap old.now map) → IsSureAnswer (query_on (archives_at map) [] (col 1 2 ∷ []) []) (overlay old.now.trees []) [] all → sum_in all ≡ total_bytes map.archives
   sums_are all map it sure =
       let project = col 1 2 ∷ [] in
       let db = old.now.trees in
-      let os = ordered project [] db all sure in
-      let shown : sum_in all ≡ sum_in (mapped (λ (o : Output). o.1) os) = ap sum_in (shown_are project [] db all sure) in
+      let os = ordered (archives_at map) project [] db all sure in
+      let shown : sum_in all ≡ sum_in (mapped (λ (o : Output). o.1) os) = ap sum_in (shown_are (archives_at map) project [] db all sure) in
       let first = sum_mapped os in
-      let moved : sum_by (λ (o : Output). number_in (column o.1 0)) os ≡ sum_by (λ (o : Output). number_in (column o.1 0)) (answer project [] db all sure).kept = sum_by-IsPermutation (λ (o : Output). number_in (column o.1 0)) _ _ (answer project [] db all sure).same in
-      let kept = ap (sum_by (λ (o : Output). number_in (column o.1 0))) (kept_are project [] db all sure) in
-      let rows = sum_rows_of (overlay db [] 4) in
-      let at = ap (sum_by (λ (r : Row). number_in (column r 2))) (overlay_none db 4) in
-      let sums = sum_archives (db 4) it.ordered it.kept.keys map.archives it.archives.apart (λ r h. let a = row_archive old map it r h in (a.0, a.1, (column r 0, a.2))) (λ a h. let r = archive_row old map it a h in (r.0, r.1, (column r.0 0, r.2))) in
+      let moved : sum_by (λ (o : Output). number_in (column o.1 0)) os ≡ sum_by (λ (o : Output). number_in (column o.1 0)) (answer (archives_at map) project [] db all sure).kept = sum_by-IsPermutation (λ (o : Output). number_in (column o.1 0)) _ _ (answer (archives_at map) project [] db all sure).same in
+      let kept = ap (sum_by (λ (o : Output). number_in (column o.1 0))) (kept_are (archives_at map) project [] db all sure) in
+      let rows = sum_rows_of (archives_at map) (overlay db [] (archives_at map)) in
+      let at = ap (sum_by (λ (r : Row). number_in (column r 2))) (overlay_none db (archives_at map)) in
+      let sums = sum_archives (db (archives_at map)) it.ordered it.kept.keys map.archives it.archives.apart (λ r h. let a = row_archive old map it r h in (a.0, a.1, (column r 0, a.2))) (λ a h. let r = archive_row old map it a h in (r.0, r.1, (column r.0 0, r.2))) in
       shown ∙ first ∙ moved ∙ kept ∙ rows ∙ at ∙ sums
     where
       sum_mapped : (os : List Output) → sum_in (mapped (λ (o : Output). o.1) os) ≡ sum_by (λ (o : Output). number_in (column o.1 0)) os
       sum_mapped [] = refl
       sum_mapped (o ∷ os) = sum_by-cons (λ c. number_in (column c 0)) o.1 (mapped (λ (o : Output). o.1) os) ∙ ap (λ n. number_in (column o.1 0) + n) (sum_mapped os) ∙ sym (sum_by-cons (λ (o : Output). number_in (column o.1 0)) o os)
 
-      sum_rows_of : (rows : List Row) → sum_by (λ (o : Output). number_in (column o.1 0)) (mapped (output (query_on 4 [] (col 1 2 ∷ []) [])) (chosen (passes [] []) (λ (z : Row). [] ∷ z ∷ []) rows)) ≡ sum_by (λ (r : Row). number_in (column r 2)) rows
-      sum_rows_of [] = refl
-      sum_rows_of (r ∷ rows) = sum_by-cons (λ (o : Output). number_in (column o.1 0)) (output (query_on 4 [] (col 1 2 ∷ []) []) ([] ∷ r ∷ [])) (mapped (output (query_on 4 [] (col 1 2 ∷ []) [])) (chosen (passes [] []) (λ (z : Row). [] ∷ z ∷ []) rows))
-          ∙ ap (λ n. number_in (column r 2) + n) (sum_rows_of rows) ∙ sym (sum_by-cons (λ (r : Row). number_in (column r 2)) r rows)
+      sum_rows_of : (tree : ℕ) (rows : List Row) → sum_by (λ (o : Output). number_in (column o.1 0)) (mapped (output (query_on tree [] (col 1 2 ∷ []) [])) (chosen (passes [] []) (λ (z : Row). [] ∷ z ∷ []) rows)) ≡ sum_by (λ (r : Row). number_in (column r 2)) rows
+      sum_rows_of tree [] = refl
+      sum_rows_of tree (r ∷ rows) = sum_by-cons (λ (o : Output). number_in (column o.1 0)) (output (query_on tree [] (col 1 2 ∷ []) []) ([] ∷ r ∷ [])) (mapped (output (query_on tree [] (col 1 2 ∷ []) [])) (chosen (passes [] []) (λ (z : Row). [] ∷ z ∷ []) rows))
+          ∙ ap (λ n. number_in (column r 2) + n) (sum_rows_of tree rows) ∙ sym (sum_by-cons (λ (r : Row). number_in (column r 2)) r rows)
 
   -- each column is a number
-  number_columns : (all : List Row) (map : KeyMap) (it : HoldsMap old.now map) → IsSureAnswer (query_on 4 [] (col 1 2 ∷ []) []) (overlay old.now.trees []) [] all → (c : Row) → Has all c → (n : ℕ) × (c ≡ Int (pos n) ∷ [])
+  number_columns : (all : List Row) (map : KeyMap) (it : HoldsMap old.now map) → IsSureAnswer (query_on (archives_at map) [] (col 1 2 ∷ []) []) (overlay old.now.trees []) [] all → (c : Row) → Has all c → (n : ℕ) × (c ≡ Int (pos n) ∷ [])
   number_columns all map it sure c h =
       let project = col 1 2 ∷ [] in
-      let o = has_mapped (λ (k : Output). k.1) (ordered project [] old.now.trees all sure) c (subst (λ l. Has l c) (shown_are project [] old.now.trees all sure) h) in
-      let r = from_row project [] old.now.trees all sure o.0 o.1 in
+      let o = has_mapped (λ (k : Output). k.1) (ordered (archives_at map) project [] old.now.trees all sure) c (subst (λ l. Has l c) (shown_are (archives_at map) project [] old.now.trees all sure) h) in
+      let r = from_row (archives_at map) project [] old.now.trees all sure o.0 o.1 in
       let a = row_archive old map it r.0 r.1 in
-      (a.0.bytes, o.2 ∙ ap (λ (k : Output). k.1) (r.2 ∙ ap (λ (z : Row). output (query_on 4 [] project []) ([] ∷ z ∷ [])) a.2))
+      (a.0.bytes, o.2 ∙ ap (λ (k : Output). k.1) (r.2 ∙ ap (λ (z : Row). output (query_on (archives_at map) [] project []) ([] ∷ z ∷ [])) a.2))
 
   pub total_all : (all : List Row) → IsTrue old.in_transaction → Shown all_bytes_text [] old new all → (r : Result ℕ RecordFault) → IfOk r (λ sum. sum ≡ min (sum_in all) (2 ^ 128 - 1))
       → IfErr r (Misreads (Any HasNoNumber all)) → Reads old new (λ map bytes. bytes ≡ total_bytes map.archives) r
   total_all all going h (Ok sum) ok err = (
     shown_goes all_bytes_text [] old new going all h,
     λ map it given.
-        let u = shown_same all_bytes_text [] old new (subst (λ s. IsPlain (understood s all_bytes_text)) (sym it.schema) (all_bytes_plain map.beside.schema)) all h in
-        let read = reads_as all_bytes_text [] old new (record_with map.beside.schema) it.schema _ (all_bytes_is map.beside.schema).0 (all_bytes_plain map.beside.schema) (all_bytes_is map.beside.schema).1 all h in
+        let u = shown_same all_bytes_text [] old new (subst (λ s. IsPlain (understood s all_bytes_text)) (sym it.schema) (all_bytes_plain map.beside.schema it.has.tables)) all h in
+        let read = reads_as all_bytes_text [] old new map.beside.schema it.schema _ (all_bytes_is map.beside.schema it.has.tables).0 (all_bytes_plain map.beside.schema it.has.tables) (all_bytes_is map.beside.schema it.has.tables).1 all h in
         let sums = sums_are all map it read.answer in
         let low = total_bound _ map.archives (archives old map it) in
         (map, subst (λ d. HoldsMap d map) (sym u.0.now_is) it, (refl, ok ∙ fits (sum_in all) (total_bytes map.archives) sums low)),
@@ -482,7 +478,7 @@ module _ (old new : State) where
         goes_keeps old new goes,
         inr goes.was_open,
         λ map it given.
-            let read = reads_as all_bytes_text [] old new (record_with map.beside.schema) it.schema _ (all_bytes_is map.beside.schema).0 (all_bytes_plain map.beside.schema) (all_bytes_is map.beside.schema).1 all h in
+            let read = reads_as all_bytes_text [] old new map.beside.schema it.schema _ (all_bytes_is map.beside.schema it.has.tables).0 (all_bytes_plain map.beside.schema it.has.tables) (all_bytes_is map.beside.schema it.has.tables).1 all h in
             misread_is _ f err (λ none.
             let c = any_has HasNoNumber all none in
             let n = number_columns all map it read.answer c.0 c.1 in

@@ -1,19 +1,17 @@
 -- Which archives go, oldest first, and what is left of a map.
-use Rattle.std.proofs.Common.{◌≡◌, inl, inr, ℕ, suc, zero, ◌+◌, ◌-◌, ◌^◌, ◌≤◌, ◌<◌, min, Bool, true, false, not, ◌&&◌, ◌||◌, cond, if◌then◌else◌, List, [], ◌∷◌, ◌++◌, length, take, drop, Option, Some, None, option_map, is_some, unwrap_or, bytes_eq, nat_le, IsTrue, refl, sym, ap, subst, ◌∙◌, append-nil, arith, true≢false}
-use Rattle.std.specs.Prelude.{IfSome, slice_get, find}
+use Rattle.std.proofs.Common.{◌≡◌, inl, inr, ℕ, suc, zero, ◌≤◌, ◌<◌, Bool, true, false, not, ◌&&◌, ◌||◌, cond, if◌then◌else◌, List, [], ◌∷◌, ◌++◌, length, take, drop, Option, Some, None, option_map, is_some, bytes_eq, nat_le, refl, sym, ap, subst, ◌∙◌, append-nil, arith, true≢false}
+use Rattle.std.specs.Prelude.{slice_get, find}
 use Rattle.std.specs.Cmp.Lexicographic.{bytes_decides}
 use Rattle.std.proofs.lemmas.Bool.{leb-true, le-leb}
 use Rattle.std.proofs.lemmas.Bool.Decides.{leb_tells}
 use Rattle.std.proofs.lemmas.List.{take-append-drop}
-use Rattle.sqlite.specs.Order.{Row as Columns}
 use Rattle.job_rows.specs.declared.archive.Archive.{Archive}
 use Rattle.job_rows.specs.declared.row.Row.{Row}
 use Rattle.job_rows.specs.Map.{is_of, has_archive, without_archive, total_bytes, keys_in, next_used, lost_count, bytes_of, fits, keeps_archive, archives_with, lost_for, left_for, lost_by, loses_own}
 use Rattle.job_rows.specs.InStep.{AreApart}
-use Rattle.job_record.specs.declared.changes.Putting.{Putting}
 use Rattle.job_record.specs.Statements.{put_params}
 use Rattle.job_record.specs.Map.{KeyMap, unarchived, kept_as, changed_by, sets, columns_after}
-use Rattle.job_record.specs.inner.Inside.{with_archives, without_flag, with_row, putting_of, own_of, set_alone, after_loss, lost_in, lost_keys, own_key, oldest_of, bytes_at}
+use Rattle.job_record.specs.inner.Inside.{with_archives, without_flag, putting_of, set_alone, after_loss, lost_in, lost_keys, own_key, bytes_at}
 use Rattle.job_record.proofs.ArchiveList.{or_false, or_none, has_append, has_other, apart_more, apart_without, without_own, without_first}
 
 pub or_second : (a b : Bool) → b ≡ true → (a || b) ≡ true

@@ -1,8 +1,7 @@
 -- What a command that only reads makes of the map.
-use Rattle.std.proofs.Common.{◌≡◌, ◌⊎◌, inl, inr, ℕ, false, List, [], Option, Some, None, Ok, Err, Result, refl, sym, ap, subst, ◌∙◌}
+use Rattle.std.proofs.Common.{◌≡◌, ◌⊎◌, inl, inr, ℕ, false, List, [], Option, Some, None, Ok, Err, Result, refl, sym, subst, ◌∙◌}
 use Rattle.sqlite.specs.Store.{Ghosts}
 use Rattle.sqlite.specs.Order.{Row as Columns}
-use Rattle.sqlite.specs.declared.error.Error.{Error}
 use Rattle.sqlite.specs.Effect.{Database, IsDatabase}
 use Rattle.sqlite.specs.State.{State, IsUnchanged, IsRolledBack, Shown}
 use Rattle.sqlite.specs.Held.{Held, state}
@@ -13,7 +12,7 @@ use Rattle.job_record.specs.declared.fault.RecordFault.TheVariants.{NotARecord, 
 use Rattle.job_record.specs.Statements.{find_text, list_text, key_params}
 use Rattle.job_record.specs.RecordMap.{Finds, Lists}
 use Rattle.job_record.specs.Keyed.{IsKeyed}
-use Rattle.job_record.specs.Tables.{HasRecord}
+use Rattle.job_record.specs.Places.{job_tree, archive_tree, HasRecord}
 use Rattle.job_record.specs.Map.{IsRecord, IsSame, Stands, FindsIn, ListsIn}
 use Rattle.job_record.proofs.OneRow.{row_with}
 use Rattle.job_record.proofs.RowMap.{key_held}
@@ -30,9 +29,9 @@ module _ (old new : State) (it : IsRecord old) where
     record {
       schema = subst (λ (d : Database). HasRecord d.schema) (sym now) it.schema;
       sound = subst IsDatabase (sym now) it.sound;
-      keyed = subst (λ (d : Database). IsKeyed (d.trees 2)) (sym now) it.keyed;
-      kept = subst (λ (d : Database). IsKeyed (d.trees 4)) (sym now) it.kept;
-      ordered = subst (λ (d : Database). IsTable (d.trees 4)) (sym now) it.ordered;
+      keyed = subst (λ (d : Database). IsKeyed (d.trees (job_tree d.schema))) (sym now) it.keyed;
+      kept = subst (λ (d : Database). IsKeyed (d.trees (archive_tree d.schema))) (sym now) it.kept;
+      ordered = subst (λ (d : Database). IsTable (d.trees (archive_tree d.schema))) (sym now) it.ordered;
       settled = committed ∙ it.settled ∙ sym now;
       autocommit = mode;
     },
@@ -62,7 +61,7 @@ module _ {S : Type 0} (g : Ghosts S) (old new : Held S) where
   find_is_map key (Err NotARecord) h it =
       let u = row_same find_text (key_params key) (state g old) (state g new) (find_is_plain (state g old) (state g new) key it) h.0 h.1 in
       let held = row_found (state g old) (state g new) key it h.0 h.1 in
-      let unread : IsUnread h.0 = λ row is. h.2 row is (row_with h.0 key (key_held ((state g old).now.trees 2) key h.0 held) row is) in
+      let unread : IsUnread h.0 = λ row is. h.2 row is (row_with h.0 key (key_held ((state g old).now.trees (job_tree (state g old).now.schema)) key h.0 held) row is) in
       (h.0, held, unread, u, (same_shows (state g old) (state g new) it u).1)
   find_is_map key (Err WrongVersion) h it = absurd h
   find_is_map key (Err NoRow) h it = absurd h

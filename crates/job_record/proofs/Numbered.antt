@@ -4,19 +4,21 @@ use Rattle.std.proofs.Math.Nat.{min-eq_left}
 use Rattle.sqlite.specs.declared.types.Value.TheVariants.{Int, Text}
 use Rattle.sqlite.specs.Order.{Row as Columns}
 use Rattle.sqlite.specs.Store.{Ghosts}
+use Rattle.sqlite.specs.Schema.{Schema}
 use Rattle.sqlite.specs.Effect.{Database}
 use Rattle.sqlite.specs.State.{State, Executes}
 use Rattle.sqlite.specs.Held.{Held, state}
 use Rattle.sqlite_rules.specs.Lists.{Has}
 use Rattle.job_rows.specs.declared.archive.Archive.{Archive}
 use Rattle.job_rows.specs.Map.{greatest_used, greatest_number}
+use Rattle.job_record.specs.Places.{archive_tree}
 use Rattle.job_record.specs.Keyed.{held_in}
 use Rattle.job_record.specs.Archives.{add_text, archive_params, archive_columns, IsWithinStore}
 use Rattle.job_record.specs.Opening.{HasBytes, AddsAll}
 use Rattle.job_record.proofs.Added.{key_free}
 use Rattle.job_record.proofs.ArchiveList.{IsListOf, list_of, archives_of, list_more, columns_none}
-use Rattle.job_record.proofs.ArchiveRows.{added_by, adds}
-use Rattle.job_record.proofs.Standing.{AreTables}
+use Rattle.job_record.proofs.ArchiveRows.{adds}
+use Rattle.job_record.proofs.Standing.{AreTables, KeepsOthers}
 
 -- each row has its archive, and the uses count on
 abbrev pub AreNumbered : ℕ → List Columns → List Archive → Type 0
@@ -64,65 +66,57 @@ params_are key bytes used low next =
 bytes_low : (c : Columns) (key : List ℕ) (bytes : ℕ) → HasBytes c key bytes → bytes ≤ greatest_number
 bytes_low c key bytes has = let is = has.bytes_is in omega (arith, is)
 
--- a database to which archives were added: its tables, and the list that they make
-pub record Grown (was db : Database) (archives : List Archive) : Type 0 where
-  pub tables : AreTables db
-  pub jobs : db.trees 2 ≡ was.trees 2
-  pub meta : db.trees 0 ≡ was.trees 0
-  pub schema : db.schema ≡ was.schema
-  pub list : IsListOf (held_in (db.trees 4)) archives
+-- a database to which archives were added: its tables, the rows of the others, and the list that they make
+pub record Grown (schema : Schema) (was db : Database) (archives : List Archive) : Type 0 where
+  pub tables : AreTables schema db
+  pub others : KeepsOthers schema (archive_tree schema) was.trees db.trees
+  pub list : IsListOf (held_in (db.trees (archive_tree schema))) archives
 
-module _ (old new : State) (before : List Archive) (c : Columns) (own : Archive) (it : AreTables old.now) (list : IsListOf (held_in (old.now.trees 4)) before) (low : greatest_used before < own.used) (fits : own.used ≤ greatest_number) (has : HasBytes c own.key own.bytes) where
-  grows : (count : ℕ) → Executes add_text (archive_params own.key own.bytes own.used) old new (Ok count) → Grown old.now new.now (before ++ own ∷ [])
+module _ (schema : Schema) (old new : State) (before : List Archive) (c : Columns) (own : Archive) (it : AreTables schema old.now) (list : IsListOf (held_in (old.now.trees (archive_tree schema))) before) (low : greatest_used before < own.used) (fits : own.used ≤ greatest_number) (has : HasBytes c own.key own.bytes) where
+  grows : (count : ℕ) → Executes add_text (archive_params own.key own.bytes own.used) old new (Ok count) → Grown schema old.now new.now (before ++ own ∷ [])
   grows count h =
       let few = bytes_low c own.key own.bytes has in
       let ran = rw (params_are own.key own.bytes own.used few fits) at h in
-      let free = key_free old new own.key (pos own.bytes) (pos own.used) it count ran in
-      let w = adds old new own.key (pos own.bytes) (pos own.used) it free count ran in
-      let none = columns_none (held_in (old.now.trees 4)) before list own.key free in
+      let free = key_free schema old new own.key (pos own.bytes) (pos own.used) it count ran in
+      let w = adds schema old new own.key (pos own.bytes) (pos own.used) it free count ran in
+      let none = columns_none (held_in (old.now.trees (archive_tree schema))) before list own.key free in
       let within : IsWithinStore own = record { key = has.key_is.1; bytes = few; used = fits } in
-      let full = list_more (held_in (old.now.trees 4)) before list own none low within in
+      let full = list_more (held_in (old.now.trees (archive_tree schema))) before list own none low within in
       record {
         tables = w.tables;
-        jobs = w.jobs_are;
-        meta = (added_by old new own.key (pos own.bytes) (pos own.used) it count ran).meta_is;
-        schema = w.schema_is;
-        list = list_of (new.now.trees 4) (before ++ own ∷ []) (archives_of (new.now.trees 4) (λ k. if bytes_eq k own.key then Some (archive_columns own) else held_in (old.now.trees 4) k) (before ++ own ∷ []) w.rows_are full);
+        others = w.others_are;
+        list = list_of (new.now.trees (archive_tree schema)) (before ++ own ∷ []) (archives_of (new.now.trees (archive_tree schema)) (λ k. if bytes_eq k own.key then Some (archive_columns own) else held_in (old.now.trees (archive_tree schema)) k) (before ++ own ∷ []) w.rows_are full);
       }
 
 -- ---- all of them
 
-pub record GrownBy (was db : Database) (used : ℕ) (all : List Columns) (before : List Archive) : Type 0 where
+pub record GrownBy (schema : Schema) (was db : Database) (used : ℕ) (all : List Columns) (before : List Archive) : Type 0 where
   pub new : List Archive
   pub numbered : AreNumbered used all new
-  pub grown : Grown was db (before ++ new)
+  pub grown : Grown schema was db (before ++ new)
 
-module _ {S : Type 0} (g : Ghosts S) where
-  pub grows_all : (at last : Held S) (used : ℕ) (all : List Columns) (before : List Archive) → AreTables (state g at).now → IsListOf (held_in ((state g at).now.trees 4)) before → greatest_used before ≤ used → used + length all ≤ greatest_number
-      → AddsAll g at last used all → GrownBy (state g at).now (state g last).now used all before
+module _ {S : Type 0} (g : Ghosts S) (schema : Schema) where
+  pub grows_all : (at last : Held S) (used : ℕ) (all : List Columns) (before : List Archive) → AreTables schema (state g at).now → IsListOf (held_in ((state g at).now.trees (archive_tree schema))) before → greatest_used before ≤ used → used + length all ≤ greatest_number
+      → AddsAll g at last used all → GrownBy schema (state g at).now (state g last).now used all before
   grows_all at last used [] before it list low few same = record {
     new = [];
     numbered = tt;
     grown = record {
-      tables = subst (λ h. AreTables (state g h).now) (sym same) it;
-      jobs = ap (λ h. (state g h).now.trees 2) same;
-      meta = ap (λ h. (state g h).now.trees 0) same;
-      schema = ap (λ h. (state g h).now.schema) same;
-      list = subst (IsListOf (held_in ((state g last).now.trees 4))) (sym (append-nil before)) (subst (λ h. IsListOf (held_in ((state g h).now.trees 4)) before) (sym same) list);
+      tables = subst (λ h. AreTables schema (state g h).now) (sym same) it;
+      others = λ t there other. ap (λ h. (state g h).now.trees t.tree) same;
+      list = subst (IsListOf (held_in ((state g last).now.trees (archive_tree schema)))) (sym (append-nil before)) (subst (λ h. IsListOf (held_in ((state g h).now.trees (archive_tree schema))) before) (sym same) list);
     };
   }
   grows_all at last used (c ∷ all) before it list low few (next, n, key, bytes, has, ran, more) =
       let own : Archive = record { key = key; bytes = bytes; used = used + 1 } in
-      let one = grows (state g at) (state g next) before c own it list (omega (arith, low)) (omega (arith, few)) has n ran in
+      let one = grows schema (state g at) (state g next) before c own it list (omega (arith, low)) (omega (arith, few)) has n ran in
       let rest = grows_all next last (used + 1) all (before ++ own ∷ []) one.tables one.list (greatest_more before own (used + 1) (omega (arith, low)) (omega arith)) (omega (arith, few)) more in
       record {
         new = own ∷ rest.new;
         numbered = (has, refl, rest.numbered);
         grown = record {
           tables = rest.grown.tables;
-          jobs = rest.grown.jobs ∙ one.jobs;
-          meta = rest.grown.meta ∙ one.meta;
-          schema = rest.grown.schema ∙ one.schema;
-          list = subst (IsListOf (held_in ((state g last).now.trees 4))) (append_assoc before (own ∷ []) rest.new) rest.grown.list;
+          others = λ t there other. rest.grown.others t there other ∙ one.others t there other;
+          list = subst (IsListOf (held_in ((state g last).now.trees (archive_tree schema)))) (append_assoc before (own ∷ []) rest.new) rest.grown.list;
         };
       }

@@ -1,8 +1,7 @@
 -- What an edit of the rows of one key makes of a table.
-use Rattle.std.proofs.Common.{◌≡◌, ◌⊎◌, inl, inr, ℕ, suc, ℤ, true, if◌then◌else◌, List, [], ◌∷◌, length, map, drop, Option, Some, None, refl, sym, ap, subst, ◌∙◌}
+use Rattle.std.proofs.Common.{◌≡◌, ◌⊎◌, inl, inr, ℕ, suc, ℤ, true, if◌then◌else◌, List, [], ◌∷◌, length, map, drop, Some, None, refl, sym, ap, subst, ◌∙◌}
 use Rattle.std.specs.Str.{bytes_eq}
 use Rattle.std.proofs.lemmas.Bool.{cases_Bool}
-use Rattle.sqlite.specs.declared.types.Value.{Value}
 use Rattle.sqlite.specs.declared.types.Value.TheVariants.{Int, Text}
 use Rattle.sqlite.specs.Order.{Row, column}
 use Rattle.sqlite.specs.Tree.{Trees, rowid}
@@ -18,7 +17,7 @@ use Rattle.sqlite_rules.proofs.ProbeLemmas.{has_mapped}
 use Rattle.sqlite_rules.proofs.PlaceLemmas.{given as given_numbers}
 use Rattle.sqlite.specs.Rowids.TheVariants.{Given}
 use Rattle.job_record.specs.Keyed.{held_in, IsKeyed}
-use Rattle.job_record.proofs.Compiled.{has_key, forget_project}
+use Rattle.job_record.specs.Commands.{has_key, forget_project}
 use Rattle.job_record.proofs.KeyTest.{same_text, text_itself, texts_equal, and_true}
 use Rattle.job_record.proofs.RowMap.{held_row, held_none, SetsRow, ClearsRow, set_is, clear_is}
 use Rattle.job_record.proofs.Shown.{AreShown, passes}

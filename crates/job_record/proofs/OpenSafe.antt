@@ -48,7 +48,7 @@ module _ {S : Type 0} (g : Ghosts S) where
     opened_safe budget h opens =
         let safe = λ (map : KeyMap) (it : IsRecordOf (state g new) map). safe_open (state g new) map [] (settled g old new law) (opens_open old new h) it in
         record {
-          made = λ b. safe (no_columns budget) (opens.made b);
+          made = λ b. safe (no_columns (state g old).now budget) (opens.made b);
           migrated = λ f. let m = opens.migrated f in (m.0, m.1, m.2, safe m.0 m.3);
           taken = λ map it. safe map (taken_of (state g old) (state g new) map budget opens it);
         }
@@ -66,7 +66,7 @@ module _ {S : Type 0} (g : Ghosts S) where
 pub opens_rows : (budget : Option ℕ) (old new : State) → OpensSafely budget old new → OpensWithRows budget old new
 opens_rows budget old new safe =
     record {
-      made = λ b. record { columns = no_columns budget; refused = []; safe = safe.made b; rows = record { rows = λ key. tt; archives = refl; budget = refl } };
+      made = λ b. record { columns = no_columns old.now budget; refused = []; safe = safe.made b; rows = record { rows = λ key. tt; archives = refl; budget = refl } };
       migrated = λ f. let m = safe.migrated f in (m.0, m.1, m.2, λ map is. record { columns = m.0; refused = []; safe = m.3; rows = is });
       taken = λ columns it budget_is map is. record { columns = columns; refused = []; safe = safe.taken columns it; rows = is };
     }

@@ -25,7 +25,7 @@ use Rattle.job_record.specs.Statements.{version_text, list_text}
 use Rattle.job_record.specs.Archives.{look_text}
 use Rattle.job_record.specs.inner.Lacking.{lacking}
 use Rattle.job_record.specs.inner.Opened.{tables_of, HasThese}
-use Rattle.job_record.specs.Opening.{HasTable, HasTables, LacksColumn, VersionIn, ReadsVersion, CannotRead, IsUnready}
+use Rattle.job_record.specs.Opening.{HasTable, AreThere, LacksColumn, VersionIn, ReadsVersion, CannotRead, IsUnready}
 
 pub outlined : (r : Result Compiled CompileError) (o : Outline) → Outlines r o → IsOk r
 outlined (Ok c) o h = refl
@@ -109,7 +109,7 @@ module _ {S : Type 0} (g : Ghosts S) where
     pub looked_twice : IsUnchanged (state g old) (state g one) → IsUnchanged (state g one) (state g two) → IsUnchanged (state g old) (state g two)
     looked_twice = unchanged_then (state g old) (state g one) (state g two)
 
-    looked : (meta job archive : Bool) → Looks meta job archive → HasTables (state g old).now.schema meta job archive × IsUnchanged (state g old) (state g new)
+    looked : (meta job archive : Bool) → Looks meta job archive → AreThere (state g old).now.schema meta job archive × IsUnchanged (state g old) (state g new)
     looked meta job archive h =
         let both = looked_twice h.0.1 h.1.1 in (
           record {

@@ -14,7 +14,7 @@ use Rattle.sqlite_trees.specs.Tree.{IsTable}
 use Rattle.sqlite_rules.specs.Lists.{Has}
 use Rattle.job_rows.specs.declared.archive.Archive.{Archive}
 use Rattle.job_rows.specs.InStep.{AreRising}
-use Rattle.job_record.proofs.Compiled.{archives_query}
+use Rattle.job_record.specs.Commands.{archives_on}
 use Rattle.job_record.proofs.Looking.{rising_above}
 use Rattle.job_record.proofs.Ordered.{less_then, not_less}
 use Rattle.job_record.proofs.Summed.{not_again}
@@ -90,13 +90,13 @@ module _ (number : Row → ℕ) (n : ℕ) where
 
 -- ---- outputs of the query
 
-less_by : (a b : Output) (m n : ℕ) → a.0 ≡ Int (pos m) ∷ [] → b.0 ≡ Int (pos n) ∷ [] → is_lt (output_cmp archives_query a b) ≡ is_lt (int_cmp (pos m) (pos n))
+less_by : (a b : Output) (m n : ℕ) → a.0 ≡ Int (pos m) ∷ [] → b.0 ≡ Int (pos n) ∷ [] → is_lt (output_cmp (archives_on 4) a b) ≡ is_lt (int_cmp (pos m) (pos n))
 less_by a b m n p q = rw (p, q) (less_then _ ∙ ap is_lt (value_cmp-Int (pos m) (pos n)))
 
-tail_sorted : (o : Output) (os : List Output) → IsSorted (output_cmp archives_query) (o ∷ os) → IsSorted (output_cmp archives_query) os
+tail_sorted : (o : Output) (os : List Output) → IsSorted (output_cmp (archives_on 4)) (o ∷ os) → IsSorted (output_cmp (archives_on 4)) os
 tail_sorted o os sorted k d low high =
     let next : suc k + 1 ≡ suc (k + 1) = omega arith in
-    subst (λ j. is_lt (output_cmp archives_query (get_or (o ∷ os) j d) (get_or os k d)) ≡ false) next (sorted (suc k) d (omega arith) (omega (arith, high)))
+    subst (λ j. is_lt (output_cmp (archives_on 4) (get_or (o ∷ os) j d) (get_or os k d)) ≡ false) next (sorted (suc k) d (omega arith) (omega (arith, high)))
 
 module _ (read : Output → Archive) where
   abbrev IsByUse : Output → Type 0
@@ -110,12 +110,12 @@ module _ (read : Output → Archive) where
   abbrev pub uses : ℕ → Output → ℕ
   uses = counts (λ o. (read o).used)
 
-  first_up : (o p : Output) (os : List Output) → IsByUse o → IsByUse p → IsSorted (output_cmp archives_query) (o ∷ p ∷ os) → (read o).used ≤ (read p).used
+  first_up : (o p : Output) (os : List Output) → IsByUse o → IsByUse p → IsSorted (output_cmp (archives_on 4)) (o ∷ p ∷ os) → (read o).used ≤ (read p).used
   first_up o p os by next sorted =
       not_less (read p).used (read o).used (sym (less_by p o (read p).used (read o).used next by) ∙ sorted 0 o (omega arith) (omega arith))
 
   -- outputs that are sorted by their use rise, if none comes twice
-  pub sorted_rise : (last : ℕ) (os : List Output) → ((o : Output) → Has os o → IsByUse o) → IsSorted (output_cmp archives_query) os → ((n : ℕ) → sum_by (uses n) os ≤ 1) → IsFirstAfter last os
+  pub sorted_rise : (last : ℕ) (os : List Output) → ((o : Output) → Has os o → IsByUse o) → IsSorted (output_cmp (archives_on 4)) os → ((n : ℕ) → sum_by (uses n) os ≤ 1) → IsFirstAfter last os
       → AreRising last (map read os)
   sorted_rise last [] by sorted once first = tt
   sorted_rise last (o ∷ []) by sorted once first = (first, tt)

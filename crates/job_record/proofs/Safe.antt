@@ -4,11 +4,13 @@ use Rattle.sqlite.specs.Tree.{Trees}
 use Rattle.sqlite.specs.Effect.{Database}
 use Rattle.sqlite.specs.State.{State, HasCleanDisk, Survives}
 use Rattle.sqlite.proofs.StateLemmas.{survives_weaker}
+use Rattle.sqlite_trees.specs.Tree.{IsTable}
 use Rattle.job_record.specs.declared.fault.RecordFault.{RecordFault}
 use Rattle.job_record.specs.declared.fault.RecordFault.TheVariants.{NotARecord, WrongVersion, NoRow, Store, UsesSpent, OutOfMemory}
 use Rattle.job_record.specs.declared.changes.Space.{Space}
 use Rattle.job_record.specs.Counted.{FitsSpace}
-use Rattle.job_record.specs.Tables.{record_with}
+use Rattle.job_record.specs.Places.{job_tree, archive_tree, HasRecord}
+use Rattle.job_record.specs.Keyed.{IsKeyed}
 use Rattle.job_record.specs.Map.{KeyMap, HoldsMap, IsRecord, IsRecordOf, Stands, Change, changed_by}
 use Rattle.job_record.specs.OpenMap.{IsLeft}
 use Rattle.job_record.specs.Crash.{IsSafe, ChangesSafely, CrashesWhole}
@@ -39,11 +41,11 @@ safe_open s map refused settles open_now it = record {
 -- the record whose map it is
 pub record_of : (s : State) (map : KeyMap) → IsRecordOf s map → IsRecord s
 record_of s map it = record {
-  schema = record { others = map.beside.schema; is = it.holds.schema; apart = it.holds.apart };
+  schema = subst HasRecord (sym it.holds.schema) it.holds.has;
   sound = it.holds.sound;
-  keyed = it.holds.keyed;
-  kept = it.holds.kept;
-  ordered = it.holds.ordered;
+  keyed = subst (λ t. IsKeyed (s.now.trees (job_tree t))) (sym it.holds.schema) it.holds.keyed;
+  kept = subst (λ t. IsKeyed (s.now.trees (archive_tree t))) (sym it.holds.schema) it.holds.kept;
+  ordered = subst (λ t. IsTable (s.now.trees (archive_tree t))) (sym it.holds.schema) it.holds.ordered;
   settled = it.settled;
   autocommit = it.autocommit;
 }
@@ -85,7 +87,7 @@ module _ {T : Type 0} (Given : KeyMap → Type 0) (Told : Answer T) (Why : KeyMa
 
   leaves : (map : KeyMap) → FitsSpace space map → IsRecordOf old map → (trees : Trees) → LeavesBy Told map trees → IsLeft trees (changed_by c map)
   leaves map fits it trees h = record {
-    holds = subst (λ (m : KeyMap). HoldsMap (record { schema = record_with m.beside.schema; trees = trees }) m) (tells map h.0 h.1 it.holds fits h.2) h.3;
+    holds = subst (λ (m : KeyMap). HoldsMap (record { schema = m.beside.schema; trees = trees }) m) (tells map h.0 h.1 it.holds fits h.2) h.3;
     in_step = stays_in_step old.now c map it.holds it.in_step;
   }
 

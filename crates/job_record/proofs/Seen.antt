@@ -2,47 +2,46 @@
 use Rattle.std.proofs.Common.{◌≡◌, ◌⊎◌, inl, inr, ℕ, ℤ, pos, Bool, true, false, List, [], ◌∷◌, drop, Some, Result, Ok, Err, IsTrue, refl, sym, ap, subst, ◌∙◌}
 use Rattle.std.specs.Prelude.{OnOk}
 use Rattle.std.specs.List.Sorted.{IsSorted}
-use Rattle.std.proofs.lemmas.Bool.{and_parts}
 use Rattle.sqlite.specs.Collation.TheVariants.{Binary}
-use Rattle.sqlite.specs.Command.TheVariants.{Select}
 use Rattle.sqlite.specs.Store.{Ghosts}
-use Rattle.sqlite.specs.Schema.{Schema}
+use Rattle.sqlite.specs.Program.{overlay}
+use Rattle.sqlite.specs.Query.{IsSureAnswer}
 use Rattle.sqlite.specs.Order.{Row as Columns, column}
 use Rattle.sqlite.specs.Term.{col, eval_all}
 use Rattle.sqlite.specs.Effect.{Database, IsDatabase}
-use Rattle.sqlite.specs.Listing.{understood, reads_listing}
+use Rattle.sqlite.specs.Listing.{understood}
 use Rattle.sqlite.specs.State.{State, IsUnchanged, IsRolledBack, Shown}
 use Rattle.sqlite.specs.Held.{Held, state}
-use Rattle.sqlite.proofs.Callers.{IsPlain, command_of, reads_as, unchanged_then}
-use Rattle.sqlite_schema.specs.declared.schema.Constraint.TheVariants.{Datatype, NotNull}
-use Rattle.sqlite_tied.specs.Compute.{everything}
+use Rattle.sqlite.proofs.Callers.{IsPlain, reads_as, unchanged_then}
 use Rattle.sqlite_value.specs.Keys.{ascending}
 use Rattle.sqlite_rules.specs.Lists.{Has}
-use Rattle.sqlite_rules.proofs.ListLemmas.{all_has, any_has}
+use Rattle.sqlite_rules.proofs.ListLemmas.{any_has}
 use Rattle.job_rows.specs.declared.row.Row.{Row}
 use Rattle.job_record.specs.declared.fault.RecordFault.{RecordFault}
 use Rattle.job_record.specs.declared.fault.RecordFault.TheVariants.{NotARecord, WrongVersion, NoRow, Store, UsesSpent, OutOfMemory}
 use Rattle.job_record.specs.Statements.{version_text, list_text}
-use Rattle.job_record.specs.Tables.{first_schema}
+use Rattle.job_record.specs.Places.{job_tree, HasFirst}
 use Rattle.job_record.specs.Keyed.{IsKeyed}
 use Rattle.job_record.specs.Columns.{IsUnread, AreRowsOf}
 use Rattle.job_record.specs.RecordMap.{Lists}
-use Rattle.job_record.specs.Opening.{HasTables, ReadsVersion}
+use Rattle.job_record.specs.Opening.{AreThere, ReadsVersion}
 use Rattle.job_record.specs.Map.{IsRecord, held, by_key}
 use Rattle.job_record.specs.OpenMap.{IsBlank, IsFirst}
 use Rattle.job_record.specs.Seen.{SeesIn}
 use Rattle.job_record.specs.inner.Opened.{ReadsAs}
-use Rattle.job_record.proofs.Compiled.{columns, names, list_query, list_first, version_plain, version_first}
+use Rattle.job_record.specs.Commands.{columns, list_on}
+use Rattle.job_record.proofs.ArchiveMade.{job_was}
+use Rattle.job_record.proofs.Compiled.{list_first, list_first_is, version_plain, version_first}
 use Rattle.job_record.proofs.KeyOrder.{rows_sorted}
 use Rattle.job_record.proofs.OpenedMap.{blank_none, plain_at, version_same}
 use Rattle.job_record.proofs.Queries.{shown_same, failed_same}
 use Rattle.job_record.proofs.RowMap.{held_row, row_held}
-use Rattle.job_record.proofs.Shapes.{Laid, laid_row}
+use Rattle.job_record.proofs.Shapes.{Laid, laid_in}
 use Rattle.job_record.proofs.Shown.{AreShown, shown_rows}
 
 known_plain : (s : State) → IsFirst s ⊎ IsRecord s → IsPlain (understood s.now.schema version_text)
-known_plain s (inl first) = subst (λ (t : Schema). IsPlain (understood t version_text)) (sym first.schema) version_first
-known_plain s (inr it) = subst (λ (t : Schema). IsPlain (understood t version_text)) (sym it.schema.is) (version_plain it.schema.others)
+known_plain s (inl first) = version_first s.now.schema first.schema
+known_plain s (inr it) = version_plain s.now.schema it.schema.tables
 
 -- reading the version of a record changes nothing
 version_seen : (old mid new : State) (n : ℤ) → IsUnchanged old mid → ReadsVersion mid new (Ok n) → IsFirst old ⊎ IsRecord old → IsUnchanged old new
@@ -53,36 +52,27 @@ seen_by archive n old mid new u (Ok done) reads = version_seen old mid new (pos 
 seen_by archive n old mid new u (Err fault) reads = tt
 
 -- a store with the tables of a record is not blank
-pub not_blank : (archive : Bool) (old : State) → HasTables old.now.schema true true archive → (r : Result (Unit {0}) RecordFault) → OnOk r (IsBlank old → ⊥)
+pub not_blank : (archive : Bool) (old : State) → AreThere old.now.schema true true archive → (r : Result (Unit {0}) RecordFault) → OnOk r (IsBlank old → ⊥)
 not_blank archive old has (Ok done) = λ blank. blank_none old true archive blank has
 not_blank archive old has (Err fault) = tt
 
 -- ---- the rows of version 1
 
-list_is_first : (command_of (understood first_schema list_text) ≡ Select (record { lets = []; body = list_query }) names) × (reads_listing first_schema list_text ≡ false)
-unfolding understood everything
-list_is_first = (refl, refl)
-
-laid_first : (db : Database) → db.schema ≡ first_schema → IsDatabase db → (r : Columns) → Has (db.trees 2) r → Laid r
-laid_first db is sound r h =
-    let typed = rw is at (sound.obeys.rules Datatype) in
-    let present = rw is at (sound.obeys.rules NotNull) in
-    laid_row r (and_parts _ _ (all_has _ (db.trees 2) r typed.1.0 h)).0 (all_has _ (db.trees 2) r present.1.0 h)
-
 module _ (old new : State) (it : IsFirst old) where
   abbrev table : List Columns
-  table = old.now.trees 2
+  table = old.now.trees (job_tree old.now.schema)
 
   is_plain : IsPlain (understood old.now.schema list_text)
-  is_plain = subst (λ (s : Schema). IsPlain (understood s list_text)) (sym it.schema) list_first
+  is_plain = list_first old.now.schema it.schema
 
   laid_at : (r : Columns) → Has table r → Laid r
-  laid_at = laid_first old.now it.schema it.sound
+  laid_at = laid_in old.now.schema (job_was old.now.schema it.schema) old.now refl it.sound
+
+  read : (all : List Columns) → Shown list_text [] old new all → IsSureAnswer (list_on (job_tree old.now.schema)) (overlay old.now.trees []) [] all
+  read all h = let asks = list_first_is old.now.schema it.schema in (reads_as list_text [] old new old.now.schema refl _ asks.0 is_plain asks.1 all h).answer
 
   found : (all : List Columns) → Shown list_text [] old new all → AreShown [] columns table [] all
-  found all h =
-      let read = reads_as list_text [] old new first_schema it.schema _ list_is_first.0 list_first list_is_first.1 all h in
-      shown_rows 2 [] columns ((col 1 1, ascending Binary) ∷ []) old.now.trees [] all read.answer
+  found all h = shown_rows (job_tree old.now.schema) [] columns ((col 1 1, ascending Binary) ∷ []) old.now.trees [] all (read all h)
 
   row_is : (r : Columns) → Laid r → eval_all columns ([] ∷ r ∷ []) ≡ drop 1 r
   row_is r laid = ap (λ (z : Columns). eval_all columns ([] ∷ z ∷ [])) laid.is ∙ ap (λ (z : Columns). drop 1 z) (sym laid.is)
@@ -100,15 +90,13 @@ module _ (old new : State) (it : IsFirst old) where
       subst (Has all) (row_is r.0 laid ∙ sym r.3) (shown.complete r.0 r.1 refl)
 
   sorted : (all : List Columns) (rows : List Row) → Shown list_text [] old new all → AreRowsOf all rows → IsSorted by_key rows
-  sorted all rows h are =
-      let read = reads_as list_text [] old new first_schema it.schema _ list_is_first.0 list_first list_is_first.1 all h in
-      rows_sorted old.now.trees laid_at all read.answer rows are
+  sorted all rows h are = rows_sorted (job_tree old.now.schema) old.now.trees laid_at all (read all h) rows are
 
   first_as : new.now ≡ old.now → new.committed ≡ old.committed → new.in_transaction ≡ false → IsFirst new
   first_as now committed mode = record {
-    schema = ap (λ (d : Database). d.schema) now ∙ it.schema;
+    schema = subst (λ (d : Database). HasFirst d.schema) (sym now) it.schema;
     sound = subst IsDatabase (sym now) it.sound;
-    keyed = subst (λ (d : Database). IsKeyed (d.trees 2)) (sym now) it.keyed;
+    keyed = subst (λ (d : Database). IsKeyed (d.trees (job_tree d.schema))) (sym now) it.keyed;
     settled = committed ∙ it.settled ∙ sym now;
     autocommit = mode;
   }

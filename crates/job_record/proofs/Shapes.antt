@@ -8,10 +8,12 @@ use Rattle.sqlite_sql.specs.Ops.{is_null}
 use Rattle.sqlite.specs.Kind.TheVariants as kind
 use Rattle.sqlite_schema.specs.Rules.{is_of, are_typed, are_present}
 use Rattle.sqlite_schema.specs.declared.schema.Constraint.TheVariants.{Datatype, NotNull}
+use Rattle.sqlite.specs.Schema.{Schema}
 use Rattle.sqlite.specs.Effect.{Database, IsDatabase}
 use Rattle.sqlite_rules.specs.Lists.{Has}
-use Rattle.sqlite_rules.proofs.ListLemmas.{all_has}
-use Rattle.job_record.specs.Tables.{job_at, HasRecord}
+use Rattle.job_record.specs.Tables.{job_at}
+use Rattle.job_record.specs.Places.{job_tree, job_in}
+use Rattle.job_record.proofs.Placed.{row_passes}
 
 pub record Laid (r : Row) : Type 0 where
   pub id : Value
@@ -62,7 +64,7 @@ int_in (Blob b) h n = absurd (none h)
 made : (id a b c d e : Value) (k o f : List ℕ) (m n : ℤ) → a ≡ Text k → b ≡ Text o → c ≡ Text f → d ≡ Int m → e ≡ Int n → Laid (id ∷ a ∷ b ∷ c ∷ d ∷ e ∷ [])
 made id a b c d e k o f m n p q r s t = record { id = id; key = k; outputs = o; files = f; cost = m; archived = n; is = rw (p, q, r, s, t) refl }
 
-laid : (id : Value) (vs : Row) → are_typed (job_at 2).key 0 (job_at 2).columns vs ≡ true → are_present (job_at 2).key 0 (job_at 2).columns (id ∷ vs) ≡ true → Laid (id ∷ vs)
+laid : (id : Value) (vs : Row) → are_typed (job_at 0).key 0 (job_at 0).columns vs ≡ true → are_present (job_at 0).key 0 (job_at 0).columns (id ∷ vs) ≡ true → Laid (id ∷ vs)
 laid id [] t p = absurd (none p)
 laid id (a ∷ []) t p = absurd (end1 (not (is_null a)) p)
 laid id (a ∷ b ∷ []) t p = absurd (end2 (not (is_null a)) (not (is_null b)) p)
@@ -87,12 +89,11 @@ laid id (a ∷ b ∷ c ∷ d ∷ e ∷ []) t p =
     made id a b c d e k.0 o.0 f.0 m.0 n.0 k.1 o.1 f.1 m.1 n.1
 laid id (a ∷ b ∷ c ∷ d ∷ e ∷ f ∷ more) t p = absurd (end5 (is_of kind.Text a) (is_of kind.Text b) (is_of kind.Text c) (is_of kind.Integer d) (is_of kind.Integer e) t)
 
-pub laid_row : (r : Row) → are_typed (job_at 2).key 0 (job_at 2).columns (drop 1 r) ≡ true → are_present (job_at 2).key 0 (job_at 2).columns r ≡ true → Laid r
+pub laid_row : (r : Row) → are_typed (job_at 0).key 0 (job_at 0).columns (drop 1 r) ≡ true → are_present (job_at 0).key 0 (job_at 0).columns r ≡ true → Laid r
 laid_row [] t p = absurd (none p)
 laid_row (id ∷ vs) t p = laid id vs t p
 
-pub laid_in : (db : Database) → HasRecord db.schema → IsDatabase db → (r : Row) → Has (db.trees 2) r → Laid r
-laid_in db has sound r h =
-    let typed = rw has.is at (sound.obeys.rules Datatype) in
-    let present = rw has.is at (sound.obeys.rules NotNull) in
-    laid_row r (and_parts _ _ (all_has _ (db.trees 2) r typed.1.0 h)).0 (all_has _ (db.trees 2) r present.1.0 h)
+pub laid_in : (schema : Schema) → Has schema.tables (job_in schema) → (db : Database) → db.schema ≡ schema → IsDatabase db → (r : Row) → Has (db.trees (job_tree schema)) r → Laid r
+laid_in schema job db is sound r there =
+    let typed = row_passes schema db is sound Datatype (job_in schema) job r there in
+    laid_row r (and_parts _ _ typed).0 (row_passes schema db is sound NotNull (job_in schema) job r there)

@@ -13,7 +13,7 @@ use Rattle.sqlite_trees.proofs.ListLemmas.{all-permutation}
 use Rattle.sqlite_rules.specs.Lists.{Has}
 use Rattle.sqlite_rules.proofs.ListLemmas.{all_has, all_from, has_right}
 use Rattle.sqlite_rules.proofs.ProbeLemmas.{has_mapped, mapped_has}
-use Rattle.job_record.proofs.Compiled.{query_on}
+use Rattle.job_record.specs.Commands.{query_on}
 
 abbrev pub passes : List Term → Row → Row → Bool
 passes tests params r = list_all (holds (params ∷ r ∷ [])) tests

@@ -1,5 +1,5 @@
 -- A database with the tables of a record, and what a statement on one of them leaves of the others.
-use Rattle.std.proofs.Common.{◌≡◌, ◌≢◌, ◌⊎◌, inl, inr, ℕ, suc, true, false, not, ℤ, List, [], ◌∷◌, drop, Option, Some, None, Ok, IsTrue, refl, sym, ap, subst, ◌∙◌, Ordering, Less, true≢false}
+use Rattle.std.proofs.Common.{◌≡◌, ◌≢◌, ◌⊎◌, ℕ, suc, true, false, not, ℤ, List, [], ◌∷◌, drop, Option, Some, None, refl, sym, ap, subst, ◌∙◌, Less, true≢false}
 use Rattle.std.proofs.lemmas.Bool.{and_parts, not-true}
 use Rattle.sqlite.specs.declared.types.Value.TheVariants.{Text}
 use Rattle.sqlite.specs.Order.{Row, column, value_cmp}
@@ -17,70 +17,75 @@ use Rattle.sqlite_trees.proofs.TreeLemmas.{IsTable-put_row}
 use Rattle.sqlite_trees.proofs.ListLemmas.{ascending-filter}
 use Rattle.sqlite_rules.specs.Lists.{Has}
 use Rattle.sqlite_rules.proofs.ListLemmas.{all_has}
-use Rattle.job_record.specs.Tables.{job_at, archive_at, no_schema, record_schema, record_with, IsApart, HasRecord}
-use Rattle.job_record.specs.Keyed.{IsKeyed}
-use Rattle.job_record.specs.Map.{KeyMap, HoldsMap, IsRecord}
+use Rattle.job_record.specs.Tables.{archive_at}
+use Rattle.job_record.specs.Places.{job_tree, job_in, archive_tree, archive_in, HasRecord}
+use Rattle.job_record.specs.Keyed.{held_in, IsKeyed}
+use Rattle.job_record.specs.Map.{KeyMap, held, HoldsMap, IsRecord}
 use Rattle.job_record.proofs.OneKey.{HasTexts}
+use Rattle.job_record.proofs.Placed.{job_there, archive_there, archive_not_job, row_passes}
 use Rattle.job_record.proofs.Shapes.{Laid, laid_in, text_in}
 
-pub record AreTables (db : Database) : Type 0 where
-  pub schema : HasRecord db.schema
+pub record AreTables (whole : Schema) (db : Database) : Type 0 where
+  pub schema : db.schema ≡ whole
+  pub has : HasRecord whole
   pub sound : IsDatabase db
-  pub keyed : IsKeyed (db.trees 2)
-  pub kept : IsKeyed (db.trees 4)
-  pub ordered : IsTable (db.trees 4)
+  pub keyed : IsKeyed (db.trees (job_tree whole))
+  pub kept : IsKeyed (db.trees (archive_tree whole))
+  pub ordered : IsTable (db.trees (archive_tree whole))
 
-pub tables_of : (db : Database) (map : KeyMap) → HoldsMap db map → AreTables db
-tables_of db map it = record { schema = record { others = map.beside.schema; is = it.schema; apart = it.apart }; sound = it.sound; keyed = it.keyed; kept = it.kept; ordered = it.ordered }
+-- the trees of a map's rows and archives
+abbrev pub rows_at : KeyMap → ℕ
+rows_at map = job_tree map.beside.schema
 
-pub tables_in : (s : State) → IsRecord s → AreTables s.now
-tables_in s it = record { schema = it.schema; sound = it.sound; keyed = it.keyed; kept = it.kept; ordered = it.ordered }
+abbrev pub archives_at : KeyMap → ℕ
+archives_at map = archive_tree map.beside.schema
 
--- nothing was added
-pub none_apart : IsApart no_schema
-none_apart = record { trees = λ t none. absurd none; references = λ t reference none. absurd none; indexes = λ i none. absurd none }
+pub tables_of : (db : Database) (map : KeyMap) → HoldsMap db map → AreTables map.beside.schema db
+tables_of db map it = record { schema = it.schema; has = it.has; sound = it.sound; keyed = it.keyed; kept = it.kept; ordered = it.ordered }
 
-pub alone : (schema : Schema) → schema ≡ record_schema → HasRecord schema
-alone schema is = record { others = no_schema; is = is; apart = none_apart }
+-- what the record has for a key
+pub held_is : (s : State) (map : KeyMap) → HoldsMap s.now map → (key : List ℕ) → held s key ≡ map.rows key
+held_is s map it key = ap (λ (t : Schema). held_in (s.now.trees (job_tree t)) key) it.schema ∙ it.rows key
 
--- the same tables
-pub again : (was : Schema) (it : HasRecord was) (schema : Schema) → schema ≡ record_with it.others → HasRecord schema
-again was it schema is = record { others = it.others; is = is; apart = it.apart }
+pub tables_in : (s : State) → IsRecord s → AreTables s.now.schema s.now
+tables_in s it = record { schema = refl; has = it.schema; sound = it.sound; keyed = it.keyed; kept = it.kept; ordered = it.ordered }
 
 -- ---- the key of each row is a text
 
-pub job_texts : (db : Database) → AreTables db → HasTexts (db.trees 2)
-job_texts db it r there = let laid = laid_in db it.schema it.sound r there in (laid.key, ap (λ (z : Row). column z 1) laid.is)
+pub laid_row : (whole : Schema) (db : Database) → AreTables whole db → (r : Row) → Has (db.trees (job_tree whole)) r → Laid r
+laid_row whole db it = laid_in whole (job_there whole it.has.tables) db it.schema it.sound
+
+pub job_texts : (whole : Schema) (db : Database) → AreTables whole db → HasTexts (db.trees (job_tree whole))
+job_texts whole db it r there = let laid = laid_row whole db it r there in (laid.key, ap (λ (z : Row). column z 1) laid.is)
 
 none : false ≡ true → ⊥
 none h = true≢false (sym h)
 
-archive_key : (r : Row) → are_typed (archive_at 4).key 0 (archive_at 4).columns (drop 1 r) ≡ true → are_present (archive_at 4).key 0 (archive_at 4).columns r ≡ true → (k : List ℕ) × (column r 1 ≡ Text k)
+archive_key : (r : Row) → are_typed (archive_at 0).key 0 (archive_at 0).columns (drop 1 r) ≡ true → are_present (archive_at 0).key 0 (archive_at 0).columns r ≡ true → (k : List ℕ) × (column r 1 ≡ Text k)
 archive_key [] t p = absurd (none p)
 archive_key (id ∷ []) t p = absurd (none p)
 archive_key (id ∷ a ∷ more) t p = text_in a (and_parts _ _ t).0 (not-true _ (and_parts _ _ p).0)
 
-pub archive_texts : (db : Database) → AreTables db → HasTexts (db.trees 4)
-archive_texts db it r h =
-    let typed = rw it.schema.is at (it.sound.obeys.rules Datatype) in
-    let present = rw it.schema.is at (it.sound.obeys.rules NotNull) in
-    archive_key r (and_parts _ _ (all_has _ (db.trees 4) r typed.1.1.0 h)).0 (all_has _ (db.trees 4) r present.1.1.0 h)
+pub archive_texts : (whole : Schema) (db : Database) → AreTables whole db → HasTexts (db.trees (archive_tree whole))
+archive_texts whole db it r h =
+    let there = archive_there whole it.has.tables in
+    archive_key r (and_parts _ _ (row_passes whole db it.schema it.sound Datatype (archive_in whole) there r h)).0 (row_passes whole db it.schema it.sound NotNull (archive_in whole) there r h)
 
--- ---- the other table stands
-
-module _ (others : Schema) (db next : Trees) (edit : Edit) where
-  pub job_alone : edit.table ≡ job_at 2 → Applies (record_with others) Enforced db edit next → next 4 ≡ db 4
-  job_alone is a = a.tables.1.1.0 (λ e. let four : 4 ≡ 2 = e ∙ ap (λ t. t.tree) is in cc)
-
-  pub archive_alone : edit.table ≡ archive_at 4 → Applies (record_with others) Enforced db edit next → next 2 ≡ db 2
-  archive_alone is a = a.tables.1.0 (λ e. let two : 2 ≡ 4 = e ∙ ap (λ t. t.tree) is in cc)
+-- ---- the other tables stand
 
 -- each table but the one of this tree has the rows that it had
-abbrev pub KeepsOthers : ℕ → Database → Database → Type 0
-KeepsOthers tree old new = (t : Table) → Has old.schema.tables t → t.tree ≢ tree → new.trees t.tree ≡ old.trees t.tree
+abbrev pub KeepsOthers : Schema → ℕ → Trees → Trees → Type 0
+KeepsOthers schema tree old new = (t : Table) → Has schema.tables t → t.tree ≢ tree → new t.tree ≡ old t.tree
 
-pub others_kept : (old new : Database) (it : HasRecord old.schema) (edit : Edit) → Applies (record_with it.others) Enforced old.trees edit new.trees → KeepsOthers edit.table.tree old new
-others_kept old new it edit a t there = all_has _ (record_with it.others).tables t a.tables (subst (λ (s : Schema). Has s.tables t) it.is there)
+module _ (schema : Schema) (h : HasRecord schema) (db next : Trees) (edit : Edit) where
+  pub others_kept : Applies schema Enforced db edit next → KeepsOthers schema edit.table.tree db next
+  others_kept a t there = all_has _ schema.tables t a.tables there
+
+  pub job_alone : edit.table ≡ job_in schema → Applies schema Enforced db edit next → next (archive_tree schema) ≡ db (archive_tree schema)
+  job_alone is a = others_kept a (archive_in schema) (archive_there schema h.tables) (λ same. archive_not_job schema h (same ∙ ap (λ (t : Table). t.tree) is))
+
+  pub archive_alone : edit.table ≡ archive_in schema → Applies schema Enforced db edit next → next (job_tree schema) ≡ db (job_tree schema)
+  archive_alone is a = others_kept a (job_in schema) (job_there schema h.tables) (λ same. archive_not_job schema h (sym (same ∙ ap (λ (t : Table). t.tree) is)))
 
 -- ---- how many rows a statement on one key met
 

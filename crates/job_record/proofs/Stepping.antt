@@ -1,5 +1,5 @@
 -- What a statement inside a transaction makes of a record's map.
-use Rattle.std.proofs.Common.{◌≡◌, ◌⊎◌, inl, inr, ℕ, suc, zero, ◌+◌, ◌-◌, ◌^◌, ◌≤◌, ◌<◌, min, pos, Bool, true, false, if◌then◌else◌, List, [], ◌∷◌, ◌++◌, Option, Some, None, is_some, option_map, Ok, Err, Result, IsTrue, refl, sym, ap, subst, ◌∙◌, arith, true≢false}
+use Rattle.std.proofs.Common.{◌≡◌, ◌⊎◌, inl, inr, ℕ, suc, ◌-◌, ◌^◌, ◌≤◌, ◌<◌, min, pos, Bool, true, false, if◌then◌else◌, List, [], ◌∷◌, ◌++◌, Option, Some, None, is_some, option_map, Ok, Err, refl, sym, ap, subst, ◌∙◌, arith, true≢false}
 use Rattle.std.specs.Prelude.{find, bytes_eq, nat_lt, option_to_list}
 use Rattle.std.proofs.lemmas.Bool.{le-leb}
 use Rattle.std.proofs.Math.Nat.{min-eq_left}
@@ -7,8 +7,6 @@ use Rattle.sqlite.specs.declared.types.Value.TheVariants.{Int, Text}
 use Rattle.sqlite.specs.Order.{Row}
 use Rattle.sqlite.specs.declared.error.Error.{Error}
 use Rattle.sqlite_rules.specs.Lists.{Has}
-use Rattle.sqlite.specs.Table.{Table}
-use Rattle.sqlite.specs.Schema.{Schema}
 use Rattle.sqlite.specs.State.{State, IsUnchanged, IsRolledBack, KeepsCommit, ExecutesInside}
 use Rattle.job_rows.specs.declared.archive.Archive.{Archive}
 use Rattle.job_rows.specs.Map.{is_of, has_archive, without_archive, touched, next_used, greatest_used, greatest_number, AreUnspent}
@@ -24,8 +22,9 @@ use Rattle.job_record.specs.inner.Inside.{GoesOn, Answer, Steps, Always, Never, 
 use Rattle.job_record.proofs.ArchiveList.{IsListOf, list_of, archives_of, list_without, list_more, columns_found, free_columns, without_own, none_there, found_cases, greatest_without}
 use Rattle.job_record.proofs.ArchiveRows.{Archived, removes, renumbers, adds}
 use Rattle.job_record.proofs.JobRows.{Wrote, drops, forgets}
+use Rattle.job_record.proofs.Placed.{not_job, not_archive}
 use Rattle.job_record.proofs.Putting.{puts}
-use Rattle.job_record.proofs.Standing.{AreTables, tables_of, MeetsKey}
+use Rattle.job_record.proofs.Standing.{rows_at, archives_at, tables_of, MeetsKey}
 
 -- ---- the transaction
 
@@ -47,14 +46,11 @@ module _ (sql : List ℕ) (params : Row) (old new : State) where
 -- ---- the map that is left
 
 module _ (old new : State) (map : KeyMap) (it : HoldsMap old.now map) where
-  other_one : (t : Table) → Has map.beside.schema.tables t → Has old.now.schema.tables t
-  other_one t there = subst (λ (s : Schema). Has s.tables t) (sym it.schema) (inr (inr (inr there)))
-
-  jobs_left : (rows : List ℕ → Option Row) → Wrote old.now new.now rows → (next : List ℕ → Option Row) → ((k : List ℕ) → rows k ≡ next k) → HoldsMap new.now (record map { rows = next })
+  jobs_left : (rows : List ℕ → Option Row) → Wrote map.beside.schema old.now new.now rows → (next : List ℕ → Option Row) → ((k : List ℕ) → rows k ≡ next k) → HoldsMap new.now (record map { rows = next })
   jobs_left rows w next same = record {
-    schema = w.schema_is ∙ it.schema;
-    apart = it.apart;
-    beside = λ t there. w.others_are t (other_one t there) (it.apart.trees t there).0 ∙ it.beside t there;
+    schema = w.tables.schema;
+    has = it.has;
+    beside = λ t there other. w.others_are t there (not_job map.beside.schema it.has t there other) ∙ it.beside t there other;
     sound = w.tables.sound;
     keyed = w.tables.keyed;
     kept = w.tables.kept;
@@ -63,21 +59,21 @@ module _ (old new : State) (map : KeyMap) (it : HoldsMap old.now map) where
     archives = subst (λ l. AreArchives l map.archives) (sym w.archives_are) it.archives;
   }
 
-  archives_left : (f : List ℕ → Option Row) (archives : List Archive) → Archived old.now new.now f → IsListOf f archives → HoldsMap new.now (with_archives archives map)
+  archives_left : (f : List ℕ → Option Row) (archives : List Archive) → Archived map.beside.schema old.now new.now f → IsListOf f archives → HoldsMap new.now (with_archives archives map)
   archives_left f archives w list = record {
-    schema = w.schema_is ∙ it.schema;
-    apart = it.apart;
-    beside = λ t there. w.others_are t (other_one t there) (it.apart.trees t there).1 ∙ it.beside t there;
+    schema = w.tables.schema;
+    has = it.has;
+    beside = λ t there other. w.others_are t there (not_archive map.beside.schema it.has t there other) ∙ it.beside t there other;
     sound = w.tables.sound;
     keyed = w.tables.keyed;
     kept = w.tables.kept;
     ordered = w.tables.ordered;
     rows = λ k. ap (λ l. held_in l k) w.jobs_are ∙ it.rows k;
-    archives = archives_of (new.now.trees 4) f archives w.rows_are list;
+    archives = archives_of (new.now.trees (archives_at map)) f archives w.rows_are list;
   }
 
-  list : IsListOf (held_in (old.now.trees 4)) map.archives
-  list = list_of (old.now.trees 4) map.archives it.archives
+  list : IsListOf (held_in (old.now.trees (archives_at map))) map.archives
+  list = list_of (old.now.trees (archives_at map)) map.archives it.archives
 
 -- ---- the rows of the jobs
 
@@ -89,10 +85,10 @@ pub drop_step : (key : List ℕ) (old new : State) (n : ℕ) → ExecutesInside 
 drop_step key old new n h = (
   goes_on drop_archive_text (key_params key) old new n h,
   λ map it given.
-      let w = drops old new key (tables_of old.now map it) n h.0 in (
+      let w = drops map.beside.schema old new key (tables_of old.now map it) n h.0 in (
         without_flag key map,
         jobs_left old new map it _ w.0 (without_flag key map).rows (λ k. ap (λ o. if bytes_eq k key then option_map unarchived o else o) (it.rows k)),
-        (refl, met_is n (held_in (old.now.trees 2) key) (map.rows key) w.1 (it.rows key)),
+        (refl, met_is n (held_in (old.now.trees (rows_at map)) key) (map.rows key) w.1 (it.rows key)),
       ),
 )
 
@@ -100,10 +96,10 @@ pub forget_step : (key : List ℕ) (old new : State) (n : ℕ) → ExecutesInsid
 forget_step key old new n h = (
   goes_on forget_text (key_params key) old new n h,
   λ map it given.
-      let w = forgets old new key (tables_of old.now map it) n h.0 in (
+      let w = forgets map.beside.schema old new key (tables_of old.now map it) n h.0 in (
         without_row key map,
         jobs_left old new map it _ w.0 (without_row key map).rows (λ k. ap (λ o. if bytes_eq k key then None else o) (it.rows k)),
-        (refl, met_is n (held_in (old.now.trees 2) key) (map.rows key) w.1 (it.rows key)),
+        (refl, met_is n (held_in (old.now.trees (rows_at map)) key) (map.rows key) w.1 (it.rows key)),
       ),
 )
 
@@ -111,7 +107,7 @@ pub put_step : (stored : Stored) (old new : State) (n : ℕ) → ExecutesInside 
 put_step stored old new n h = (
   goes_on put_text (columns_of stored) old new n h,
   λ map it given.
-      let w = puts old new stored.key stored.outputs stored.files (pos (min stored.cost (2 ^ 63 - 1))) (if stored.archived then pos 1 else pos 0) (tables_of old.now map it) n h.0 in (
+      let w = puts map.beside.schema old new stored.key stored.outputs stored.files (pos (min stored.cost (2 ^ 63 - 1))) (if stored.archived then pos 1 else pos 0) (tables_of old.now map it) n h.0 in (
         with_row stored map,
         jobs_left old new map it _ w (with_row stored map).rows (λ k. ap (λ o. if bytes_eq k stored.key then Some (columns_of stored) else o) (it.rows k)),
         refl,
@@ -124,7 +120,7 @@ pub remove_step : (key : List ℕ) (old new : State) (n : ℕ) → ExecutesInsid
 remove_step key old new n h = (
   goes_on remove_text (key_params key) old new n h,
   λ map it given.
-      let w = removes old new key (tables_of old.now map it) n h.0 in
+      let w = removes map.beside.schema old new key (tables_of old.now map it) n h.0 in
       (with_archives (without_archive key map.archives) map, archives_left old new map it _ _ w (list_without _ map.archives (list old new map it) key), refl),
 )
 
@@ -146,7 +142,7 @@ add_step key bytes used old new n h = (
       let own : Archive = record { key = key; bytes = bytes; used = used } in
       let free = free_columns _ map.archives (list old new map it) key given.0 in
       let ran = rw (numbers_are bytes used key given.3 given.2) at h.0 in
-      let w = adds old new key (pos bytes) (pos used) (tables_of old.now map it) free n ran in
+      let w = adds map.beside.schema old new key (pos bytes) (pos used) (tables_of old.now map it) free n ran in
       let fits : IsWithinStore own = record { key = given.4; bytes = given.3; used = given.2 } in
       (with_archives (map.archives ++ own ∷ []) map, archives_left old new map it _ _ w (list_more _ map.archives (list old new map it) own given.0 given.1 fits), refl),
 )
@@ -174,22 +170,21 @@ module _ (key : List ℕ) (used : ℕ) (old new : State) (n : ℕ) (ran : Execut
       let key_is : a.key ≡ key = subst (λ (z : Archive). z.key ≡ key) alike r.4 in
       let own : Archive = record a { used = used } in
       let low = next_low map.archives used given.1.0 given.1.1 in
-      let there : held_in (old.now.trees 4) key ≡ Some (Text key ∷ Int (pos a.bytes) ∷ Int (pos a.used) ∷ []) = c ∙ ap (λ k. Some (Text k ∷ Int (pos a.bytes) ∷ Int (pos a.used) ∷ [])) key_is in
+      let there : held_in (old.now.trees (archives_at map)) key ≡ Some (Text key ∷ Int (pos a.bytes) ∷ Int (pos a.used) ∷ []) = c ∙ ap (λ k. Some (Text k ∷ Int (pos a.bytes) ∷ Int (pos a.used) ∷ [])) key_is in
       let here = rw (used_are key used low.0) at ran.0 in
-      let w = renumbers old new key (pos a.bytes) (pos a.used) (pos used) (tables_of old.now map it) there n here in
-      let rest = list_without (held_in (old.now.trees 4)) map.archives l key in
+      let w = renumbers map.beside.schema old new key (pos a.bytes) (pos a.used) (pos used) (tables_of old.now map it) there n here in
+      let rest = list_without (held_in (old.now.trees (archives_at map))) map.archives l key in
       let free : has_archive own.key (without_archive key map.archives) ≡ false = ap (λ k. has_archive k (without_archive key map.archives)) key_is ∙ without_own key map.archives in
       let fewer : greatest_used (without_archive key map.archives) ≤ greatest_used map.archives = greatest_without key map.archives in
       let later : greatest_used (without_archive key map.archives) < used = omega (arith, fewer, low.1) in
       let was = l.within a (subst (Has map.archives) alike r.3) in
       let fits : IsWithinStore own = record { key = was.key; bytes = was.bytes; used = low.0 } in
-      let full = list_more (λ k. if bytes_eq k key then None else held_in (old.now.trees 4) k) (without_archive key map.archives) rest own free later fits in
-      let columns : List ℕ → List ℕ → Option Row = λ j k. if bytes_eq k j then Some (Text j ∷ Int (pos a.bytes) ∷ Int (pos used) ∷ []) else (if bytes_eq k key then None else held_in (old.now.trees 4) k) in
+      let full = list_more (λ k. if bytes_eq k key then None else held_in (old.now.trees (archives_at map)) k) (without_archive key map.archives) rest own free later fits in
+      let columns : List ℕ → List ℕ → Option Row = λ j k. if bytes_eq k j then Some (Text j ∷ Int (pos a.bytes) ∷ Int (pos used) ∷ []) else (if bytes_eq k key then None else held_in (old.now.trees (archives_at map)) k) in
       archives_left old new map it (columns a.key) (without_archive key map.archives ++ own ∷ []) (record {
         tables = w.tables;
-        schema_is = w.schema_is;
         others_are = w.others_are;
-        rows_are = λ k. w.rows_are k ∙ twice k key (Text key ∷ Int (pos a.bytes) ∷ Int (pos used) ∷ []) (held_in (old.now.trees 4)) ∙ ap (λ j. columns j k) (sym key_is);
+        rows_are = λ k. w.rows_are k ∙ twice k key (Text key ∷ Int (pos a.bytes) ∷ Int (pos used) ∷ []) (held_in (old.now.trees (archives_at map))) ∙ ap (λ j. columns j k) (sym key_is);
         jobs_are = w.jobs_are;
       }) full
 

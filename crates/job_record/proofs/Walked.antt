@@ -1,15 +1,15 @@
 -- The steps of the commands that change a record, one after the other.
-use Rattle.std.proofs.Common.{◌≡◌, ◌⊎◌, inl, inr, ℕ, suc, ◌+◌, ◌-◌, ◌^◌, ◌≤◌, ◌<◌, min, Bool, true, false, cond, if◌then◌else◌, List, [], ◌∷◌, ◌++◌, Option, Some, None, is_some, option_map, unwrap_or, Ok, Err, Result, IsTrue, refl, sym, ap, subst, ◌∙◌, append-nil, append_assoc, length, arith, true≢false}
-use Rattle.std.specs.Prelude.{IsSome, IfSome, find, slice_get, take, drop}
+use Rattle.std.proofs.Common.{◌≡◌, inl, inr, ℕ, suc, ◌+◌, ◌-◌, ◌≤◌, ◌<◌, Bool, true, false, if◌then◌else◌, List, [], ◌∷◌, ◌++◌, Option, Some, None, is_some, option_map, Ok, Err, Result, IsTrue, refl, sym, ap, subst, ◌∙◌, append-nil, append_assoc, length, arith, true≢false}
+use Rattle.std.specs.Prelude.{IsSome, find, slice_get, take, drop}
 use Rattle.sqlite.specs.Order.{Row as Columns}
 use Rattle.sqlite.specs.State.{State, Survives}
 use Rattle.job_rows.specs.declared.archive.Archive.{Archive}
-use Rattle.job_rows.specs.Map.{is_of, has_archive, without_archive, touched, keys_in, next_used, greatest_used, greatest_number, total_bytes, lost_count, AreSpent, AreUnspent}
+use Rattle.job_rows.specs.Map.{is_of, has_archive, without_archive, touched, keys_in, next_used, greatest_used, greatest_number, total_bytes, lost_count, AreSpent}
 use Rattle.job_record.specs.declared.fault.RecordFault.{RecordFault}
-use Rattle.job_record.specs.declared.fault.RecordFault.TheVariants.{NotARecord, NoRow, UsesSpent, OutOfMemory}
+use Rattle.job_record.specs.declared.fault.RecordFault.TheVariants.{NoRow, UsesSpent}
 use Rattle.job_record.specs.declared.changes.Putting.{Putting}
-use Rattle.job_record.specs.Map.{KeyMap, HoldsMap, Change, changed_by}
-use Rattle.job_record.specs.inner.Inside.{Answer, Always, Never, IsOfStore, Walks, WalksOn, Meets, with_row, with_archives, without_flag, bytes_at, oldest_of, IsNext, CanAdd, CanRenumber, CanPut, CannotPut, IsStorable, SetsAlone, set_alone, own_of, own_key, CanLose, Loses, LosesFrom, LosesOldest, after_loss, lost_in, lost_keys, total_after, Puts, Touches, CannotTouch, Takes, Lacks}
+use Rattle.job_record.specs.Map.{KeyMap, Change, changed_by}
+use Rattle.job_record.specs.inner.Inside.{Answer, Always, Never, Walks, WalksOn, Meets, with_row, with_archives, without_flag, bytes_at, oldest_of, IsNext, CanAdd, CanRenumber, CannotPut, IsStorable, SetsAlone, own_of, LosesFrom, LosesOldest, after_loss, lost_in, Touches, CannotTouch, Takes, Lacks}
 use Rattle.job_record.proofs.ArchiveList.{found_cases, found_there, none_there, without_own, greatest_without}
 use Rattle.job_record.proofs.Losing.{count_is, first_more, loses_first, loses_more, keys_after}
 use Rattle.job_rows.specs.InStep.{AreRising}

@@ -1,5 +1,5 @@
 -- The steps of a row that is put, and of the archives that have to go for it.
-use Rattle.std.proofs.Common.{◌≡◌, inl, inr, ℕ, ◌+◌, ◌-◌, ◌^◌, ◌≤◌, ◌<◌, min, Bool, true, false, not, ◌&&◌, ◌||◌, if◌then◌else◌, List, [], ◌∷◌, ◌++◌, Option, Some, None, is_some, unwrap_or, Ok, Err, Result, IsTrue, refl, sym, ap, subst, ◌∙◌, append-nil, arith}
+use Rattle.std.proofs.Common.{◌≡◌, inl, ℕ, ◌≤◌, Bool, true, false, if◌then◌else◌, List, [], ◌∷◌, ◌++◌, Option, Some, None, unwrap_or, Ok, Err, Result, IsTrue, refl, sym, ap, subst, ◌∙◌, arith}
 use Rattle.std.specs.Prelude.{IfSome, take}
 use Rattle.sqlite.specs.State.{State}
 use Rattle.job_rows.specs.declared.archive.Archive.{Archive}
@@ -8,9 +8,10 @@ use Rattle.job_record.specs.declared.fault.RecordFault.{RecordFault}
 use Rattle.job_record.specs.declared.fault.RecordFault.TheVariants.{OutOfMemory}
 use Rattle.job_record.specs.declared.changes.Putting.{Putting}
 use Rattle.job_record.specs.Map.{KeyMap, HoldsMap}
-use Rattle.job_record.specs.inner.Inside.{Answer, Always, Never, IsOfStore, Walks, WalksOn, bytes_at, IsCounted, IsStorable, SetsAlone, set_alone, own_of, own_key, CanLose, Loses, LosesFrom, after_loss, lost_in, lost_keys, total_after, Puts, CanPut, CannotPut}
+use Rattle.job_record.specs.inner.Inside.{Answer, Always, Never, Walks, WalksOn, bytes_at, IsCounted, IsStorable, SetsAlone, set_alone, own_of, own_key, CanLose, Loses, LosesFrom, after_loss, lost_in, lost_keys, total_after, Puts, CanPut, CannotPut}
 use Rattle.job_record.proofs.ArchiveList.{list_of, total_bound}
 use Rattle.job_record.proofs.Chain.{Both, walk_join, walk_join_fails, walk_done, walk_refuses, walk_fails, walk_later}
+use Rattle.job_record.proofs.Standing.{archives_at}
 use Rattle.job_record.proofs.Summed.{total_append, left_bytes}
 use Rattle.job_record.proofs.Walked.{survives_same, CanLoseFrom}
 
@@ -100,7 +101,7 @@ module _ (budget counted : Option ℕ) (row : Putting) (old mid new : State) whe
       let own = own_total map.archives in
       let joined = total_append (without_archive row.stored.key map.archives) (own_of row map.archives) in
       let low = own_low storable in
-      let most = total_bound _ map.archives (list_of (old.now.trees 4) map.archives it.archives) in
+      let most = total_bound _ map.archives (list_of (old.now.trees (archives_at map)) map.archives it.archives) in
       let gone : unwrap_or had 0 ≡ unwrap_or (bytes_at row.stored.key map) 0 = ap (λ o. unwrap_or o 0) had_is in
       omega (arith, left, own, joined, low, most, gone, before_is)
 

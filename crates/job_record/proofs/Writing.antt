@@ -1,10 +1,12 @@
 -- The parts of a write to a table that was made.
-use Rattle.std.proofs.Common.{◌≡◌, ◌⊎◌, inl, inr, ℕ, ℤ, false, List, [], ◌∷◌, length, Option, Some, None, Ok, Err, Result, refl, sym, ap, subst, ◌∙◌}
+use Rattle.std.proofs.Common.{◌≡◌, ◌⊎◌, inl, inr, ℕ, List, [], length, Option, Some, None, Ok, Err, Result, sym, ap, subst, ◌∙◌}
+use Rattle.std.specs.Prelude.{slice_get}
 use Rattle.sqlite.specs.Order.{Row}
 use Rattle.sqlite.specs.Term.{Term}
 use Rattle.sqlite.specs.Tree.{Trees}
 use Rattle.sqlite.specs.Table.{Table}
 use Rattle.sqlite.specs.Schema.{Schema}
+use Rattle.sqlite.specs.Command.{Command}
 use Rattle.sqlite.specs.Command.TheVariants.{Update, Delete}
 use Rattle.sqlite.specs.Edit.{Edit, edit_of, taken_by, Applies}
 use Rattle.sqlite.specs.Rowids.TheVariants.{Given}
@@ -13,10 +15,10 @@ use Rattle.sqlite_rules.specs.Calls.{ids_of}
 use Rattle.sqlite_rules.specs.Action.{works}
 use Rattle.sqlite.specs.declared.run.Mode.{Mode}
 use Rattle.sqlite.specs.Effect.{Database}
-use Rattle.sqlite.specs.Does.{Tally, OnRows}
+use Rattle.sqlite.specs.Does.{Tally, AtPlace, OnTable, OnRows}
 use Rattle.sqlite.specs.Rows.{Task, Written}
 use Rattle.sqlite.proofs.Callers.{one_step}
-use Rattle.job_record.proofs.Compiled.{query_on}
+use Rattle.job_record.specs.Commands.{query_on}
 use Rattle.job_record.proofs.Shown.{AreShown, shown_rows}
 
 pub same_value : {B E : Type 0} {a b : B} → ◌≡◌ {A = Result B E} (Ok a) (Ok b) → a ≡ b
@@ -26,6 +28,14 @@ same_value e = cc
 pub went : {B E R : Type 0} {b : B} {Stops : E → Type 0} → ((stop : E) × Stops stop × (Ok b ≡ Err stop)) ⊎ R → R
 went (inl stopped) = absurd (let e = stopped.2 in cc)
 went (inr on) = on
+
+-- what is done to the table at a place is done to the one that stands there
+pub on_rows : (limit : Option ℕ) (mode : Mode) (params : Row) (db : Database) (schema : Schema) → db.schema ≡ schema → (at : ℕ) (table : Table) → slice_get schema.tables at ≡ Some table → (command : Command) (tally : Tally) (after : Database)
+    → OnTable limit mode params db at (λ task. OnRows task mode None command db.trees) (Ok (tally, after))
+    → OnRows (record { limit = limit; keys = mode.keys; schema = schema; table = table; params = params }) mode None command db.trees (Ok (tally, after))
+on_rows limit mode params db schema is at table placed command tally after h =
+    subst (λ o. AtPlace (λ (t : Table). OnRows (record { limit = limit; keys = mode.keys; schema = schema; table = t; params = params }) mode None command db.trees) o (Ok (tally, after))) placed
+    (subst (λ (s : Schema). OnTable limit mode params (record db { schema = s }) at (λ task. OnRows task mode None command db.trees) (Ok (tally, after))) is h)
 
 -- no foreign key acts on what a table loses and gains
 abbrev pub IsIdle : Schema → Table → Type 0

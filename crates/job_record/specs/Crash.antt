@@ -36,16 +36,16 @@ CrashesWhole old new space c = Survives old new (λ trees. IsTrue old.is_open ×
 abbrev pub ReadsSafely : State → State → Type 0
 ReadsSafely old new = (map : KeyMap) (refused : List Change) → IsSafe old map refused → IsSafe new map refused
 
--- a store with no table becomes the empty map, a record of version 1 has an archive for each archived row, and a record keeps its map
+-- a store in which there is room becomes the empty map beside what it had, a record of version 1 has an archive for each archived row, and a record keeps its map
 pub record OpensSafely (budget : Option ℕ) (old new : State) : Type 0 where
-  pub made : IsBlank old → IsSafe new (no_columns budget) []
+  pub made : IsBlank old → IsSafe new (no_columns old.now budget) []
   pub migrated : IsFirst old → (map : KeyMap) × (map.budget ≡ budget) × IsMigrated old map × IsSafe new map []
   pub taken : (map : KeyMap) → IsRecordOf old map → IsSafe new map []
 
--- A record that is refused keeps its map. Of a store with no table a crash leaves the last commit, or an empty record, and of a record of
+-- A record that is refused keeps its map. Of a store in which there is room a crash leaves the last commit, or an empty record, and of a record of
 -- version 1 the last commit, or the record of version 2 that it becomes.
 pub record RefusesSafely (old new : State) : Type 0 where
-  pub blank : IsBlank old → IsTrue old.is_open → (trees : Trees) → new.may_leave trees → (trees ≡ old.committed.trees) ⊎ AreEmptyRecord trees
+  pub blank : IsBlank old → IsTrue old.is_open → (trees : Trees) → new.may_leave trees → (trees ≡ old.committed.trees) ⊎ AreEmptyRecord old.now trees
   pub first : IsFirst old → IsTrue old.is_open → (trees : Trees) → new.may_leave trees → (trees ≡ old.committed.trees) ⊎ AreMigrated old trees
   pub taken : (map : KeyMap) → IsRecordOf old map → IsTrue old.is_open → IsSafe new map []
 

@@ -2,6 +2,8 @@ pub mod Texts
 pub mod Columns
 pub mod Statements
 pub mod Tables
+pub mod Places
+pub mod Commands
 pub mod Keyed
 pub mod Archives
 pub mod Map

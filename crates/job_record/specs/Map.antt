@@ -18,51 +18,56 @@ use Rattle.job_record.specs.declared.fault.RecordFault.{RecordFault}
 use Rattle.job_record.specs.declared.fault.RecordFault.TheVariants.{NotARecord, WrongVersion, NoRow, Store, UsesSpent, OutOfMemory}
 use Rattle.job_record.specs.Statements.{put_params}
 use Rattle.job_record.specs.Columns.{IsRowOf, IsUnread, AreRowsOf}
-use Rattle.job_record.specs.Tables.{no_schema, record_with, IsApart, HasRecord}
+use Rattle.job_record.specs.Places.{job_tree, archive_tree, IsOther, HasRecord, with_record, with_archive}
 use Rattle.job_record.specs.Keyed.{held_in, IsKeyed}
 use Rattle.job_record.specs.Archives.{AreArchives}
 
 -- what the record has for a key
 abbrev pub held : State → List ℕ → Option Columns
-held s = held_in (s.now.trees 2)
+held s = held_in (s.now.trees (job_tree s.now.schema))
 
--- The store holds the tables of a record, and others only after them, and no transaction is open.
+-- The store holds the tables of a record, wherever they stand, and no transaction is open.
 pub record IsRecord (s : State) : Type 0 where
   pub schema : HasRecord s.now.schema
   pub sound : IsDatabase s.now
-  pub keyed : IsKeyed (s.now.trees 2)
-  pub kept : IsKeyed (s.now.trees 4)
-  pub ordered : IsTable (s.now.trees 4)
+  pub keyed : IsKeyed (s.now.trees (job_tree s.now.schema))
+  pub kept : IsKeyed (s.now.trees (archive_tree s.now.schema))
+  pub ordered : IsTable (s.now.trees (archive_tree s.now.schema))
   pub settled : s.committed ≡ s.now
   pub autocommit : s.in_transaction ≡ false
 
 -- ---- the map
 
 -- The columns of each key, the archives that are kept, by the rising numbers of their last use, and how many bytes these may have together;
--- and beside the record, which other tables the database has, and their rows.
+-- and beside the record, what tables and indexes the database has, and the rows of its other tables.
 pub record KeyMap : Type 0 where
   pub rows : List ℕ → Option Columns
   pub archives : List Archive
   pub budget : Option ℕ
   pub beside : Database
 
-abbrev pub no_others : Database
-no_others = record { schema = no_schema; trees = λ tree. [] }
+-- beside a record that is made in a database is all that was there
+abbrev pub made_beside : Database → Database
+made_beside db = record { schema = with_record db.schema; trees = db.trees }
 
-abbrev pub no_columns : Option ℕ → KeyMap
-no_columns budget = record { rows = λ key. None; archives = []; budget = budget; beside = no_others }
+-- and beside one of version 1 that is made one of version 2
+abbrev pub migrated_beside : Database → Database
+migrated_beside db = record { schema = with_archive db.schema; trees = db.trees }
+
+abbrev pub no_columns : Database → Option ℕ → KeyMap
+no_columns db budget = record { rows = λ key. None; archives = []; budget = budget; beside = made_beside db }
 
 -- a database with the tables of a record and these others, and what they hold
 pub record HoldsMap (db : Database) (map : KeyMap) : Type 0 where
-  pub schema : db.schema ≡ record_with map.beside.schema
-  pub apart : IsApart map.beside.schema
-  pub beside : (t : Table) → Has map.beside.schema.tables t → db.trees t.tree ≡ map.beside.trees t.tree
+  pub schema : db.schema ≡ map.beside.schema
+  pub has : HasRecord map.beside.schema
+  pub beside : (t : Table) → Has map.beside.schema.tables t → IsOther map.beside.schema t → db.trees t.tree ≡ map.beside.trees t.tree
   pub sound : IsDatabase db
-  pub keyed : IsKeyed (db.trees 2)
-  pub kept : IsKeyed (db.trees 4)
-  pub ordered : IsTable (db.trees 4)
-  pub rows : (key : List ℕ) → held_in (db.trees 2) key ≡ map.rows key
-  pub archives : AreArchives (db.trees 4) map.archives
+  pub keyed : IsKeyed (db.trees (job_tree map.beside.schema))
+  pub kept : IsKeyed (db.trees (archive_tree map.beside.schema))
+  pub ordered : IsTable (db.trees (archive_tree map.beside.schema))
+  pub rows : (key : List ℕ) → held_in (db.trees (job_tree map.beside.schema)) key ≡ map.rows key
+  pub archives : AreArchives (db.trees (archive_tree map.beside.schema)) map.archives
 
 -- the flag of a row is 1 if its key has an archive, and each archive is that of a row
 pub record IsInStep (map : KeyMap) : Type 0 where

@@ -15,21 +15,21 @@ use Rattle.job_rows.specs.declared.archive.Archive.{Archive}
 use Rattle.job_rows.specs.Map.{is_of, greatest_number}
 use Rattle.job_record.specs.Texts.{ReadsAsFiles}
 use Rattle.job_record.specs.Columns.{IsText}
-use Rattle.job_record.specs.Tables.{no_schema, first_schema, record_with}
+use Rattle.job_record.specs.Places.{meta_tree, job_tree, HasFirst, IsVacant}
 use Rattle.job_record.specs.Keyed.{IsKeyed}
-use Rattle.job_record.specs.Map.{KeyMap, no_others, no_columns, held, HoldsMap, IsInStep, IsRecord, IsRecordOf, Stands}
+use Rattle.job_record.specs.Map.{KeyMap, no_columns, migrated_beside, held, HoldsMap, IsInStep, IsRecord, IsRecordOf, Stands}
 
--- the store has no table, and no transaction is open
+-- the store has no table of a record and nothing in the way of one, and no transaction is open
 pub record IsBlank (s : State) : Type 0 where
-  pub schema : s.now.schema ≡ no_schema
+  pub schema : IsVacant s.now.schema
   pub settled : s.committed ≡ s.now
   pub autocommit : s.in_transaction ≡ false
 
--- the store has the tables of version 1 and nothing else, and no transaction is open
+-- the store has the tables of version 1, wherever they stand, and no transaction is open
 pub record IsFirst (s : State) : Type 0 where
-  pub schema : s.now.schema ≡ first_schema
+  pub schema : HasFirst s.now.schema
   pub sound : IsDatabase s.now
-  pub keyed : IsKeyed (s.now.trees 2)
+  pub keyed : IsKeyed (s.now.trees (job_tree s.now.schema))
   pub settled : s.committed ≡ s.now
   pub autocommit : s.in_transaction ≡ false
 
@@ -59,33 +59,36 @@ pub record AreArchivesOf (rows : List ℕ → Option Columns) (archives : List A
   pub ordered : IsSorted by_key archives
   pub counted : (i : ℕ) (d : Archive) → i < length archives → (get_or archives i d).used ≡ i + 1
 
--- the map that a record of version 1 becomes
+-- the map that a record of version 1 becomes, beside what its store had
 pub record IsMigrated (old : State) (map : KeyMap) : Type 0 where
   pub rows : (key : List ℕ) → map.rows key ≡ held old key
   pub archives : AreArchivesOf (held old) map.archives
-  pub beside : map.beside ≡ no_others
+  pub beside : map.beside ≡ migrated_beside old.now
 
--- `meta` has a row for the version, and each that it has says this number
-pub record SaysVersion (db : Database) (n : ℕ) : Type 0 where
+-- one of the rows is for the version, and each that is says this number
+pub record AreOfVersion (rows : List Columns) (n : ℕ) : Type 0 where
   pub row : Columns
-  pub there : Has (db.trees 0) row
+  pub there : Has rows row
   pub name : column row 1 ≡ Text (codes "version")
-  pub each : (r : Columns) → Has (db.trees 0) r → column r 1 ≡ Text (codes "version") → column r 2 ≡ Int (pos n)
+  pub each : (r : Columns) → Has rows r → column r 1 ≡ Text (codes "version") → column r 2 ≡ Int (pos n)
+
+abbrev pub SaysVersion : Database → ℕ → Type 0
+SaysVersion db = AreOfVersion (db.trees (meta_tree db.schema))
 
 -- ---- opening
 
--- A store with no table becomes an empty record, one of version 1 has its rows with their archives, and a record stays as it is. What is made
--- says that it is of version 2; so does what was of version 1, if each row of `meta` has a rowid of its own.
+-- A store in which there is room becomes an empty record beside what it had, one of version 1 has its rows with their archives beside what it had, and a record stays as it
+-- is. What is made says that it is of version 2; so does what was of version 1, if each row of `meta` has a rowid of its own.
 pub record OpensAs (budget : Option ℕ) (old new : State) : Type 0 where
-  pub made : IsBlank old → IsRecordOf new (no_columns budget)
+  pub made : IsBlank old → IsRecordOf new (no_columns old.now budget)
   pub migrated : IsFirst old → (map : KeyMap) × (map.budget ≡ budget) × IsMigrated old map × IsRecordOf new map
   pub taken : IsRecord old → IsUnchanged old new × IsRecord new
   pub noted : IsBlank old → SaysVersion new.now 2
-  pub renoted : IsFirst old → IsKeyed (old.now.trees 0) → SaysVersion new.now 2
+  pub renoted : IsFirst old → IsKeyed (old.now.trees (meta_tree old.now.schema)) → SaysVersion new.now 2
 
 -- what is refused is as it was, unless a failure shut it
 pub record RefusesAs (old new : State) : Type 0 where
-  pub blank : IsBlank old → IsTrue new.is_open → IsBlank new
+  pub blank : IsBlank old → IsTrue new.is_open → (new.now ≡ old.now) × IsBlank new
   pub first : IsFirst old → IsTrue new.is_open → (new.now ≡ old.now) × IsFirst new
   pub taken : IsRecord old → Stands old new
 
@@ -93,19 +96,19 @@ pub record RefusesAs (old new : State) : Type 0 where
 
 -- what a crash left is a record with this map, and the other tables that are beside it
 pub record IsLeft (trees : Trees) (map : KeyMap) : Type 0 where
-  pub holds : HoldsMap (record { schema = record_with map.beside.schema; trees = trees }) map
+  pub holds : HoldsMap (record { schema = map.beside.schema; trees = trees }) map
   pub in_step : IsInStep map
 
--- the trees of a record with no row
-abbrev pub AreEmptyRecord : Trees → Type 0
-AreEmptyRecord trees = IsLeft trees (no_columns None)
+-- the trees of a record with no row, made in this database
+abbrev pub AreEmptyRecord : Database → Trees → Type 0
+AreEmptyRecord db trees = IsLeft trees (no_columns db None)
 
 -- the trees of the record that one of version 1 becomes
 abbrev pub AreMigrated : State → Trees → Type 0
 AreMigrated old trees = (map : KeyMap) × IsMigrated old map × IsLeft trees map
 
--- A crash leaves what it could leave before, or of a store with no table an empty record, or of version 1 the record that it becomes.
+-- A crash leaves what it could leave before, or of a store in which there is room an empty record, or of version 1 the record that it becomes.
 pub record CrashesAs (old new : State) : Type 0 where
-  pub blank : IsBlank old → Survives old new AreEmptyRecord
+  pub blank : IsBlank old → Survives old new (AreEmptyRecord old.now)
   pub first : IsFirst old → Survives old new (AreMigrated old)
   pub taken : IsRecord old → Survives old new (λ _. ⊥)

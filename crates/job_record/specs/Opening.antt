@@ -40,7 +40,7 @@ HasTable schema query true = IsThere schema query
 HasTable schema query false = IsAbsent schema query
 
 -- which of the three tables are there
-pub record HasTables (schema : Schema) (meta job archive : Bool) : Type 0 where
+pub record AreThere (schema : Schema) (meta job archive : Bool) : Type 0 where
   pub meta_is : HasTable schema version_text meta
   pub job_is : HasTable schema list_text job
   pub archive_is : HasTable schema look_text archive
@@ -55,7 +55,7 @@ is_half _ _ archive = true
 abbrev pub IsHalf : Schema → Type 0
 IsHalf schema =
     (LacksColumn schema version_text ⊎ (LacksColumn schema list_text ⊎ LacksColumn schema look_text))
-    ⊎ ((meta : Bool) × (job : Bool) × (archive : Bool) × HasTables schema meta job archive × IsTrue (is_half meta job archive))
+    ⊎ ((meta : Bool) × (job : Bool) × (archive : Bool) × AreThere schema meta job archive × IsTrue (is_half meta job archive))
 
 -- ---- the version
 
@@ -199,17 +199,17 @@ module _ {S : Type 0} (g : Ghosts S) where
 
   -- all tables, or those of version 1, with the version; or none
   abbrev pub IsReady : Held S → Held S → ℤ → Bool → Type 0
-  IsReady old at n archive = HasTables (state g old).now.schema true true archive × (found : Held S) × IsUnchanged (state g old) (state g found) × ReadsVersion (state g found) (state g at) (Ok n)
+  IsReady old at n archive = AreThere (state g old).now.schema true true archive × (found : Held S) × IsUnchanged (state g old) (state g found) × ReadsVersion (state g found) (state g at) (Ok n)
 
   abbrev pub IsBare : Held S → Held S → Type 0
-  IsBare old at = HasTables (state g old).now.schema false false false × IsUnchanged (state g old) (state g at)
+  IsBare old at = AreThere (state g old).now.schema false false false × IsUnchanged (state g old) (state g at)
 
   -- why it is not ready: R1 for other tables, or what the version is refused for; R4 if the store refuses
   abbrev pub IsUnready : Held S → Held S → RecordFault → Type 0
   IsUnready old new fault =
       ((fault ≡ NotARecord) × IsHalf (state g old).now.schema × IsUnchanged (state g old) (state g new))
       ⊎ (((e : Error) × (fault ≡ Store e) × FailsToLook old new e)
-      ⊎ (((archive : Bool) × HasTables (state g old).now.schema true true archive × (found : Held S) × IsUnchanged (state g old) (state g found) × ReadsVersion (state g found) (state g new) (Err fault))
+      ⊎ (((archive : Bool) × AreThere (state g old).now.schema true true archive × (found : Held S) × IsUnchanged (state g old) (state g found) × ReadsVersion (state g found) (state g new) (Err fault))
       ⊎ ((archive : Bool) × (n : ℤ) × IsReady old new n archive × RefusesVersion archive n fault)))
 
   -- a transaction that makes the tables, or migrates them, is undone

@@ -57,7 +57,7 @@ pub record HoldsRows (s : State) (map : RowMap) : Type 0 where
   pub safe : IsSafe s columns refused
   pub rows : IsMapOf columns map
 
--- A store with no table holds no row once it is opened, a record holds what its columns read as, and one of version 1 too, with an archive for
+-- A store in which there is room holds no row once it is opened, a record holds what its columns read as, and one of version 1 too, with an archive for
 -- each archived row.
 pub record OpensWithRows (budget : Option ℕ) (old new : State) : Type 0 where
   pub made : IsBlank old → HoldsRows new (no_rows budget)

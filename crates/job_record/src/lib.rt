@@ -25,6 +25,6 @@ mod tables;
 mod texts;
 
 pub use fault::RecordFault;
-pub use laws::{see_record, see_rows};
+pub use laws::{see_record, see_rows, see_statements, see_tables};
 pub use record::JobRecord;
 pub use showing::{archives_of, look, rows_of};

@@ -12,7 +12,7 @@
 //! A type may lead back to itself through `Items` and `Keyed`, as a tree of values does: give it
 //! `#[cycle(name)]`, and likewise its recursive functions, one for a value, one for `&Items` and one for
 //! `&Keyed`, each a `for` over `as_slice()`. A definition over such a type is a fold, `fold-Tree A step`, with
-//! `map` of it for items and `map_values` of it for named values. `crates/value_rows/src/tree.rt` has the
+//! `map` of it for items and `map_values` of it for named values. `crates/test_values/src/tree.rt` has the
 //! smallest such type and an exact copy of it.
 //!
 //! `specs/ByName.antt` has the order of names and the look-up; `proofs/ByName.antt`, `proofs/Lookup.antt` and

@@ -2,10 +2,10 @@
 
 use anyhow::{Result, anyhow};
 use flow_planner::{plan, plan_again};
-use path_planner::plan_by_paths;
 use plan_checker::{Charges, Graph, Plan, check};
 use std::mem;
 use std::time::Instant;
+use test_paths::plan_by_paths;
 
 /// Prints the cost of the Least plan.
 pub fn cost(rt: &HostRuntime, graph: &Graph) -> Result<()> {

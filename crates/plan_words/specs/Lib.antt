@@ -4,3 +4,4 @@ pub mod Readers
 pub mod Reasons
 pub mod Picture
 pub mod Laws
+pub mod Waiting

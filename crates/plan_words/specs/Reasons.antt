@@ -43,8 +43,9 @@ abbrev pub why_not_loaded : Option ℕ → Known → List ℕ
 why_not_loaded (Some fetch) known = codes "fetching its files takes " ++ decimal fetch ++ codes " ms\n"
 why_not_loaded None known = why_computed known
 
-abbrev pub computed_words : Vertex → Known → List ℕ
-computed_words job known = costing (codes "computed") job.compute ++ why_not_loaded job.load known
+-- with the lines on what is near to it
+abbrev pub computed_words : Vertex → Known → (near : List ℕ) → List ℕ
+computed_words job known near = costing (codes "computed") job.compute ++ why_not_loaded job.load known ++ near
 
 -- how many of the jobs that read its files are loaded, and how many are not needed
 abbrev pub has_no_readers : (loaded pruned : ℕ) → Bool
@@ -59,19 +60,19 @@ abbrev pub pruned_words : (loaded pruned : ℕ) → List ℕ
 pruned_words loaded pruned =
     codes "not needed: no output has its files, and " ++ readers_words loaded pruned (has_no_readers loaded pruned)
 
-abbrev pub reason : Vertex → Mark → Known → ℕ → ℕ → List ℕ
-reason job Load known loaded pruned = loaded_words job
-reason job Compute known loaded pruned = computed_words job known
-reason job Prune known loaded pruned = pruned_words loaded pruned
+abbrev pub reason : Vertex → Mark → Known → (near : List ℕ) → ℕ → ℕ → List ℕ
+reason job Load known near loaded pruned = loaded_words job
+reason job Compute known near loaded pruned = computed_words job known near
+reason job Prune known near loaded pruned = pruned_words loaded pruned
 
 -- `NUMBER PLACE is `, of job i
 abbrev pub job_start : List (List ℕ) → ℕ → List ℕ
 job_start places i = decimal i ++ codes " " ++ place places i ++ codes " is "
 
-abbrev pub reason_line : List Vertex → List Mark → List Known → List (List ℕ) → ℕ → List ℕ
-reason_line graph marks known places i =
+abbrev pub reason_line : List Vertex → List Mark → List Known → (near places : List (List ℕ)) → ℕ → List ℕ
+reason_line graph marks known near places i =
     job_start places i
-    ++ reason (vertex graph i) (mark marks i) (known_of known i) (readers graph marks Load i) (readers graph marks Prune i)
+    ++ reason (vertex graph i) (mark marks i) (known_of known i) (place near i) (readers graph marks Load i) (readers graph marks Prune i)
 
-abbrev pub reasons : List Vertex → List Mark → List Known → List (List ℕ) → List ℕ
-reasons graph marks known places = texts_below (length graph) (reason_line graph marks known places)
+abbrev pub reasons : List Vertex → List Mark → List Known → (near places : List (List ℕ)) → List ℕ
+reasons graph marks known near places = texts_below (length graph) (reason_line graph marks known near places)

@@ -23,18 +23,22 @@ pub enum Known {
     Archived,
 }
 
-/// Says of each job why it is loaded, computed or not needed: a line `NUMBER PLACE is ..` for each, with costs in milliseconds.
+/// Says of each job why it is loaded, computed or not needed: a line `NUMBER PLACE is ..` for each, with costs in milliseconds, and behind
+/// that of a job that is computed the lines on what is near to it.
 pub fn plan_reasons(
     alloc: Global,
     graph: &Graph,
     plan: &Plan,
     known: &[Known],
+    near: &[Text],
     places: &[Text],
 ) -> Result<Text, AllocError>
     requires marks { length plan.now.marks ≡ length graph.now }
     requires known { length known.now ≡ length graph.now }
+    requires near { length near.now ≡ length graph.now }
     requires places { length places.now ≡ length graph.now }
-    ensures { IfOk result (λ text. text ≡ reasons graph.now plan.now.marks known.now places.now) }
+    ensures { IfOk result (λ text. text ≡ reasons graph.now plan.now.marks known.now near.now
+        places.now) }
 {
     let loaded = readers_of(alloc, graph, plan, Mark::Load)?;
     let pruned = readers_of(alloc, graph, plan, Mark::Prune)?;
@@ -43,12 +47,14 @@ pub fn plan_reasons(
     for number in 0..places.len() {
         push_start(&mut text, places, number)?;
         let why = known_at(known, number);
+        let lines = place_at(near, number);
         push_reason(
             &mut text,
             graph,
             plan,
             number,
             why,
+            lines,
             loaded[number],
             pruned[number],
         )?;
@@ -80,18 +86,20 @@ fn push_reason(
     plan: &Plan,
     number: usize,
     known: Known,
+    near: &Text,
     loaded: usize,
     pruned: usize,
 ) -> Result<(), AllocError>
     requires job { number < length graph.now }
     requires mark { number < length plan.now.marks }
     ensures { OnOk result (string_bytes text.new ≡ string_bytes text.old
-        ++ reason (vertex graph.now number) (mark plan.now.marks number) known loaded pruned) }
+        ++ reason (vertex graph.now number) (mark plan.now.marks number) known near.now loaded
+        pruned) }
 {
     let job = job_at(graph, number);
     match mark_at(plan, number) {
         Mark::Load => push_loaded(text, job),
-        Mark::Compute => push_computed(text, job, known),
+        Mark::Compute => push_computed(text, job, known, near),
         Mark::Prune => push_pruned(text, loaded, pruned),
     }
 }
@@ -104,12 +112,18 @@ fn push_loaded(text: &mut String, job: &Vertex) -> Result<(), AllocError>
     push_alternative(text, job.compute, job.compute < fetch)
 }
 
-fn push_computed(text: &mut String, job: &Vertex, known: Known) -> Result<(), AllocError>
+fn push_computed(
+    text: &mut String,
+    job: &Vertex,
+    known: Known,
+    near: &Text,
+) -> Result<(), AllocError>
     ensures { OnOk result (string_bytes text.new ≡ string_bytes text.old
-        ++ computed_words job.now known) }
+        ++ computed_words job.now known near.now) }
 {
     push_cost(text, "computed", job.compute)?;
-    push_why(text, job.load, known)
+    push_why(text, job.load, known)?;
+    text.push_str(near.as_str())
 }
 
 // What is done with a job, and what it costs.

@@ -6,7 +6,7 @@ ghost use Rattle.proc_host.specs.Log.{answer_behind, entries_of, FailsOnlyBy};
 
 use crate::archive::fetch_folder;
 use crate::clearing::clear_job;
-use crate::collecting::next_end;
+use crate::collecting::{Killed, next_end};
 use crate::delivering::deliver_all;
 use crate::discarding::discard_all;
 use crate::fetching::fetch_all;
@@ -154,6 +154,7 @@ pub(crate) fn collect<R: World, H: Hear>(
     rt: &R,
     log: &mut Vec<Entry>,
     flying: &mut Vec<Flying<R::Started, R::File>>,
+    killed: &mut Vec<Killed>,
     running: &[u64],
     hearer: &mut H,
 ) -> Result<ChildEnd, HostError>
@@ -164,7 +165,7 @@ pub(crate) fn collect<R: World, H: Hear>(
     ensures child { IfOk result (λ ending. Contains running.now ending.ticket) }
 {
     make_room(log)?;
-    match ended_of(rt, flying, running, hearer) {
+    match ended_of(rt, flying, killed, running, hearer) {
         Ok(ending) => {
             note(log, HostRequest::Collect, HostAnswer::Ended(ending));
             Ok(ending)
@@ -335,12 +336,13 @@ pub(crate) fn discard<R: World>(
 fn ended_of<R: World, H: Hear>(
     rt: &R,
     flying: &mut Vec<Flying<R::Started, R::File>>,
+    killed: &mut Vec<Killed>,
     running: &[u64],
     hearer: &mut H,
 ) -> Result<ChildEnd, Trouble>
     ensures { IfOk result (λ ending. Contains running.now ending.ticket) }
 {
-    let ending = next_end(rt, flying, hearer)?;
+    let ending = next_end(rt, flying, killed, hearer)?;
     if running.contains(&ending.ticket) {
         Ok(ending)
     } else {

@@ -9,6 +9,7 @@ use proc_host::ChildEnd;
 use std::alloc::Global;
 use std::fs::OpenFile;
 use std::io::{Read, Seek};
+use std::os::unix::process::ExitStatusExt;
 use std::process::{ExitStatus, OpenProcess};
 use std::time::{Duration, Instant};
 
@@ -20,25 +21,34 @@ const MOST_DELAY: u64 = 1_000;
 /// The time between two looks at what the children have written, in milliseconds.
 const HEARING_DELAY: u64 = 50;
 
+/// A child that a signal ended.
+#[derive(Clone, Copy, Debug, Drop, PartialEq, Eq)]
+pub(crate) struct Killed {
+    pub(crate) ticket: u64,
+    pub(crate) signal: i32,
+}
+
 /// Waits for the end of a child, and takes that child out: of those that have ended the oldest. With one child of which nothing is
 /// handed on it waits for that one; else it looks at each in turn, and sleeps for a hundredth of the time waited between two looks.
+/// Which signal ended it is kept, if there is room for that.
 pub(crate) fn next_end<R: World, H: Hear>(
     rt: &R,
     flying: &mut Vec<Flying<R::Started, R::File>>,
+    killed: &mut Vec<Killed>,
     hearer: &mut H,
 ) -> Result<ChildEnd, Trouble> {
     match flying.len() {
         0 => Err(Trouble::Failed),
         1 if flying[0].messages.is_none() => {
             let status = flying[0].child.wait()?;
-            taken(rt, flying, 0, status)
+            taken(rt, flying, killed, 0, status)
         }
         _ => {
             let (index, status) = next_of_several(rt, flying, hearer)?;
             // What was written before the end is told before it.
             hand_on_all(rt.alloc(), flying, hearer);
             hand_on(rt.alloc(), &mut flying[index], true, hearer);
-            taken(rt, flying, index, status)
+            taken(rt, flying, killed, index, status)
         }
     }
 }
@@ -108,12 +118,19 @@ fn hand_on<P: OpenProcess + Drop, F: OpenFile + Read + Seek + Drop, H: Hear>(
 fn taken<R: World>(
     rt: &R,
     flying: &mut Vec<Flying<R::Started, R::File>>,
+    killed: &mut Vec<Killed>,
     index: usize,
     status: ExitStatus,
 ) -> Result<ChildEnd, Trouble>
     requires { index < vec_len flying.old }
 {
     let ended = flying.remove(index);
+    if let Some(signal) = status.signal() {
+        let _kept = killed.push(Killed {
+            ticket: ended.ticket,
+            signal,
+        });
+    }
     Ok(ChildEnd {
         ticket: ended.ticket,
         code: status.code(),

@@ -4,6 +4,7 @@ ghost use Rattle.proc_host.specs.Log.{answer_behind, entries_of, FailsOnlyBy};
 ghost use Rattle.proc_host.specs.Tickets.{without};
 
 use crate::calls;
+use crate::collecting::Killed;
 use crate::hearing::{Deaf, Hear};
 use crate::missed::Undelivered;
 use crate::past::Places;
@@ -36,6 +37,8 @@ pub struct Machine<R: World> {
     // the children that were not collected yet, oldest first
     flying: Vec<Flying<R::Started, R::File>>,
     started: u64,
+    // those that a signal ended, as far as there was room
+    killed: Vec<Killed>,
     // whether messages that no file takes are handed on as they come
     shows: bool,
     // whether the folders `in` and `tmp` of jobs stay
@@ -86,6 +89,7 @@ impl<R: World> Machine<R> {
             running: Vec::new(alloc),
             flying: Vec::new(alloc),
             started: 0,
+            killed: Vec::new(alloc),
             shows: false,
             keeps: false,
             guarded: Items::new(alloc),
@@ -155,6 +159,12 @@ impl<R: World> Machine<R> {
         self.unstored
     }
 
+    /// The signal that ended the child of a ticket, if one did, as far as there was room to keep it.
+    pub fn signal_of(&self, ticket: u64) -> Option<i32> {
+        let killed = self.killed.iter().find(|one| one.ticket == ticket)?;
+        Some(killed.signal)
+    }
+
     /// What was asked and answered so far, oldest first.
     pub fn log(&self) -> &[Entry]
         ensures { result.now ≡ self.now.log }
@@ -182,6 +192,7 @@ impl<R: World> Machine<R> {
             &self.rt,
             &mut self.log,
             &mut self.flying,
+            &mut self.killed,
             &self.running,
             hearer,
         )

@@ -6,6 +6,7 @@ pub mod JobObjects
 pub mod JsonWord
 pub mod KeyWords
 pub mod Launcher
+pub mod NearWords
 pub mod PlanWords
 pub mod Progress
 pub mod RecordForm

@@ -7,6 +7,7 @@
 //! - `Teller` writes the lines of `--verbose`, `--progress` and `--progress=json`, each only if it is asked for; `reason_for` says why a job
 //!   is computed.
 //! - `savings_line` says what became of the jobs of a run, how long it took, and what it saved.
+//! - `near_words` says how a job differs from the nearest one that is recorded.
 //! - `key_words` says what a row of a record is of, and `check_lines` in what a cache's files and its record differ.
 //! - `visible` shows foreign text with a code for what a terminal would hide.
 #![tactic(auto)]
@@ -18,6 +19,7 @@ mod json_word;
 mod key_shown;
 mod launcher;
 mod laws;
+mod near_told;
 mod objects;
 mod planning;
 mod progress;
@@ -39,6 +41,7 @@ pub use json_word::name_json_word;
 pub use key_shown::key_words;
 pub use launcher::launcher_of;
 pub use laws::{line_is_one_command, text_is_one_word};
+pub use near_told::near_words;
 pub use planning::PlanWords;
 pub use progress::{Counts, Longest};
 pub use record_form::{RecordForm, form_of};

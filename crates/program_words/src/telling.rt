@@ -1,6 +1,7 @@
 //! What a run says of its jobs on standard error while it goes on.
-ghost use Rattle.std.specs.Prelude.{◌≡◌, ◌≢◌, List, ℕ, ◌++◌, Some, codes, option_map, IfOk, OnOk, string_bytes};
+ghost use Rattle.std.specs.Prelude.{◌≡◌, ◌≢◌, List, [], ℕ, ◌++◌, Some, codes, option_copied, option_map, unwrap_or, IfOk, OnOk, string_bytes};
 ghost use Rattle.std.specs.Io.KnownBytes.{Appends};
+ghost use Rattle.plain_data.specs.ByName.{value_at, with_value};
 ghost use Rattle.program_words.specs.JobLines as spec;
 ghost use Rattle.program_words.specs.JobObjects as objects;
 ghost use Rattle.program_words.specs.Launcher.{launched as as_launched};
@@ -17,7 +18,7 @@ use crate::savings::{Savings, savings_line};
 use crate::shell_words::line_of;
 use crate::shown::visible;
 use command_line::Launch;
-use plain_data::Text;
+use plain_data::{Keyed, Text};
 use proc_host::ChildEnd;
 use std::alloc::{AllocError, Global};
 use std::io;
@@ -93,6 +94,8 @@ pub struct Teller<'a, E: Write> {
     launcher: Option<&'a str>,
     // the command that is about to be started, as JSON text, if its start is said in JSON
     command: Option<Text>,
+    // how jobs that are not recorded differ from the nearest ones, in lines
+    near: Keyed<Text>,
 }
 
 impl<'a, E: Write> Teller<'a, E> {
@@ -105,6 +108,7 @@ impl<'a, E: Write> Teller<'a, E> {
     ) -> Teller<'a, E>
         ensures told { result.telling ≡ telling }
         ensures err { E.contents result.err.now ≡ E.contents err.old }
+        ensures near { result.near ≡ [] }
     {
         Teller {
             alloc,
@@ -112,7 +116,17 @@ impl<'a, E: Write> Teller<'a, E> {
             telling,
             launcher,
             command: None,
+            near: Keyed::new(alloc),
         }
+    }
+
+    /// Keeps lines on what is near to the job at a place, which follow the one that says why it is computed.
+    pub fn know_near(&mut self, place: Text, lines: Text) -> Result<(), AllocError>
+        ensures err { E.contents self.new.err.now ≡ E.contents self.old.err.now }
+        ensures kept { OnOk result (self.new.near ≡ with_value place lines self.old.near) }
+    {
+        let _before = self.near.insert(place, lines)?;
+        Ok(())
     }
 
     /// Erases the line that was rewritten, and puts in its place what became of the jobs.
@@ -161,13 +175,15 @@ impl<'a, E: Write> Teller<'a, E> {
             ≡ E.contents self.old.err.now }
         ensures told { OnOk result (self.old.telling ≡ Telling.Lines
             → Appends (E.contents self.old.err.now) (E.contents self.new.err.now)
-            (spec.why_line place.now why ++ codes "\n")) }
+            (spec.why_line place.now why ++ codes "\n"
+            ++ unwrap_or (value_at place.now self.old.near) [])) }
     {
         if !matches!(self.telling, Telling::Lines) {
             return Ok(());
         }
         let line = why_line(self.alloc, place, why)?;
-        writeln!(self.err, "{line}")
+        let near = lines_of(self.near.get(place.as_str()));
+        write!(self.err, "{line}\n{near}")
     }
 
     fn tell_start(&mut self, place: &Text, launch: &Launch, counts: Counts) -> io::Result<()>
@@ -386,6 +402,15 @@ fn why_line(alloc: Global, place: &Text, why: Why) -> Result<String, AllocError>
 {
     let why = why.words();
     format!(in alloc; "compute {place}: {why}")
+}
+
+fn lines_of(near: Option<&Text>) -> &str
+    ensures { result.now ≡ unwrap_or (option_copied near.entry) [] }
+{
+    match near {
+        Some(lines) => lines.as_str(),
+        None => "",
+    }
 }
 
 fn said_line(alloc: Global, place: &Text, words: &str) -> Result<String, AllocError>

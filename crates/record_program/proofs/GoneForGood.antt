@@ -1,5 +1,5 @@
 -- What a budget lets go of an open record is gone in its file.
-use Rattle.std.proofs.Common.{◌≡◌, List, [], ℕ, Option, Some, None, refl, sym, subst}
+use Rattle.std.proofs.Common.{List, [], ℕ, Some, None, refl, sym, subst}
 use Rattle.sqlite_disk.specs.declared.Disk.{Ghosts}
 use Rattle.sqlite_disk.specs.declared.Files.{Files}
 use Rattle.sqlite_store.specs.declared.store.FileStore.{FileStore}

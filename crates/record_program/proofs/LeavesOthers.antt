@@ -1,6 +1,6 @@
 -- The rows with a sum are forgotten one after another, and no others.
 use Rattle.std.proofs.Common.{◌≡◌, ◌≢◌, ◌⊎◌, inl, inr, ℕ, ◌+◌, ◌<◌, Bool, true, false, not, ◌||◌, true≢false, cond, if◌then◌else◌, List, [], ◌∷◌, ◌++◌, take, length, get_or, filter, Option, Some, None, Result, Ok, Err, IsTrue, bytes_eq, zero, suc, pos, refl, sym, ap, subst, ◌∙◌}
-use Rattle.std.specs.Prelude.{IsSome, OnOk, OnErr}
+use Rattle.std.specs.Prelude.{IsSome, OnOk}
 use Rattle.std.specs.List.{list_any}
 use Rattle.std.proofs.lemmas.List as lists
 use Rattle.std.proofs.lemmas.Bool.{cases_Bool}
@@ -8,10 +8,12 @@ use Rattle.std.proofs.lemmas.Slice.Eq.{bytes_eq-Decides}
 use Rattle.sqlite.specs.Store.{Ghosts}
 use Rattle.sqlite.specs.declared.types.Value.TheVariants.{Int}
 use Rattle.sqlite.specs.Order.{Row as Columns, column}
+use Rattle.sqlite.specs.Schema.{Schema}
 use Rattle.sqlite.specs.Table.{Table}
 use Rattle.sqlite.specs.Effect.{Database}
 use Rattle.sqlite.specs.State.{State, IsUnchanged}
 use Rattle.sqlite.specs.Held.{Held, state}
+use Rattle.sqlite_trees.specs.Tree.{IsTable}
 use Rattle.sqlite_rules.specs.Lists.{Has}
 use Rattle.job_rows.specs.declared.archive.Archive.{Archive}
 use Rattle.job_rows.specs.Map.{has_archive, is_of, without_archive}
@@ -20,12 +22,12 @@ use Rattle.job_record.specs.declared.fault.RecordFault.{RecordFault}
 use Rattle.job_record.specs.declared.fault.RecordFault.TheVariants.{NotARecord, WrongVersion, NoRow, Store, UsesSpent, OutOfMemory}
 use Rattle.job_record.specs.Counted.{FitsSpace, IsCount}
 use Rattle.job_record.specs.RecordMap.{ListsKeys}
-use Rattle.job_record.specs.Keyed.{held_in}
-use Rattle.job_record.specs.Tables.{record_with, IsApart}
+use Rattle.job_record.specs.Places.{job_tree, archive_tree, IsOther, HasRecord}
+use Rattle.job_record.specs.Keyed.{held_in, IsKeyed}
 use Rattle.job_record.specs.Archives.{AreArchives}
 use Rattle.job_record.specs.Map.{KeyMap, HoldsMap, IsInStep, held, IsRecord, IsRecordOf, Stands, KeysIn, ChangesIn, changed_by, forgets}
-use Rattle.record_program.specs.Lines.{has_sum, keys_with}
-use Rattle.record_program.specs.Forgetting.{without_sum, forgotten, HasRowWith, HasOddKey, LacksAtMost, Forgets}
+use Rattle.record_program.specs.Lines.{has_sum}
+use Rattle.record_program.specs.Forgetting.{without_sum, forgotten, LacksAtMost, Forgets}
 use Rattle.record_program.specs.inner.Steps.{PicksOf, Picks, StaysOf, HoldsKeys, ForgetsOne, ForgetsAll}
 
 -- ---- lists
@@ -83,11 +85,11 @@ option_of None = inr refl
 
 pub record_of : (s : State) (map : KeyMap) → IsRecordOf s map → IsRecord s
 record_of s map it = record {
-  schema = record { others = map.beside.schema; is = it.holds.schema; apart = it.holds.apart };
+  schema = subst HasRecord (sym it.holds.schema) it.holds.has;
   sound = it.holds.sound;
-  keyed = it.holds.keyed;
-  kept = it.holds.kept;
-  ordered = it.holds.ordered;
+  keyed = subst (λ t. IsKeyed (s.now.trees (job_tree t))) (sym it.holds.schema) it.holds.keyed;
+  kept = subst (λ t. IsKeyed (s.now.trees (archive_tree t))) (sym it.holds.schema) it.holds.kept;
+  ordered = subst (λ t. IsTable (s.now.trees (archive_tree t))) (sym it.holds.schema) it.holds.ordered;
   settled = it.settled;
   autocommit = it.autocommit;
 }
@@ -110,15 +112,15 @@ stays_of old new map it stands open_now = let s = stands open_now in same_of old
 like : (s : State) (map other : KeyMap) → ((key : List ℕ) → map.rows key ≡ other.rows key) → map.archives ≡ other.archives → map.beside ≡ other.beside → IsRecordOf s map → IsRecordOf s other
 like s map other rows archives beside it = record {
   holds = record {
-    schema = it.holds.schema ∙ ap (λ (d : Database). record_with d.schema) beside;
-    apart = subst (λ (d : Database). IsApart d.schema) beside it.holds.apart;
-    beside = subst (λ (d : Database). (t : Table) → Has d.schema.tables t → s.now.trees t.tree ≡ d.trees t.tree) beside it.holds.beside;
+    schema = it.holds.schema ∙ same;
+    has = subst HasRecord same it.holds.has;
+    beside = subst (λ (d : Database). (t : Table) → Has d.schema.tables t → IsOther d.schema t → s.now.trees t.tree ≡ d.trees t.tree) beside it.holds.beside;
     sound = it.holds.sound;
-    keyed = it.holds.keyed;
-    kept = it.holds.kept;
-    ordered = it.holds.ordered;
-    rows = λ key. it.holds.rows key ∙ rows key;
-    archives = subst (AreArchives (s.now.trees 4)) archives it.holds.archives;
+    keyed = subst (λ t. IsKeyed (s.now.trees (job_tree t))) same it.holds.keyed;
+    kept = subst (λ t. IsKeyed (s.now.trees (archive_tree t))) same it.holds.kept;
+    ordered = subst (λ t. IsTable (s.now.trees (archive_tree t))) same it.holds.ordered;
+    rows = λ key. ap (λ t. held_in (s.now.trees (job_tree t)) key) (sym same) ∙ it.holds.rows key ∙ rows key;
+    archives = subst (λ t. AreArchives (s.now.trees (archive_tree t)) other.archives) same (subst (AreArchives (s.now.trees (archive_tree map.beside.schema))) archives it.holds.archives);
   };
   in_step = record {
     flags = λ key c h. subst (λ (xs : List Archive). column c 4 ≡ Int (pos (if has_archive key xs then 1 else 0))) archives (it.in_step.flags key c (rows key ∙ h));
@@ -127,15 +129,21 @@ like s map other rows archives beside it = record {
   settled = it.settled;
   autocommit = it.autocommit;
 }
+  where
+    same : map.beside.schema ≡ other.beside.schema
+    same = ap (λ (d : Database). d.schema) beside
 
 -- ---- the keys
 
 module _ {S : Type 0} (g : Ghosts S) (old new : Held S) (sum : List ℕ) (map : KeyMap) (it : IsRecordOf (state g old) map) where
+  same_held : (key : List ℕ) → held (state g old) key ≡ map.rows key
+  same_held key = ap (λ (t : Schema). held_in ((state g old).now.trees (job_tree t)) key) it.holds.schema ∙ it.holds.rows key
+
   of_held : (key : List ℕ) (c : Columns) → held (state g old) key ≡ Some c → map.rows key ≡ Some c
-  of_held key c h = sym (it.holds.rows key) ∙ h
+  of_held key c h = sym (same_held key) ∙ h
 
   is_held : (key : List ℕ) (c : Columns) → map.rows key ≡ Some c → held (state g old) key ≡ Some c
-  is_held key c h = it.holds.rows key ∙ h
+  is_held key c h = same_held key ∙ h
 
   picked : (all : List (List ℕ)) (result : Result (List (List ℕ)) RecordFault) → KeysIn (state g old) (state g new) (Ok all) → PicksOf sum all result → HoldsKeys sum map (state g new) result
   picked all (Ok keys) k p =

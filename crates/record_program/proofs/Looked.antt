@@ -19,10 +19,10 @@ use Rattle.sqlite_tied.specs.Compute.{everything}
 use Rattle.sqlite_trees.specs.Tree.{IsTable}
 use Rattle.sqlite_trees.specs.View.{doubt}
 use Rattle.job_record.specs.declared.fault.RecordFault.TheVariants.{NotARecord, WrongVersion, NoRow, Store, UsesSpent, OutOfMemory}
-use Rattle.job_record.specs.Tables.{HasRecord}
+use Rattle.job_record.specs.Places.{meta_tree, job_tree, archive_tree, HasRecord, HasFirst, IsVacant}
 use Rattle.job_record.specs.Keyed.{held_in, IsKeyed}
-use Rattle.job_record.specs.Map.{KeyMap, held, IsRecord, Stands}
-use Rattle.job_record.specs.Opening.{IsReady, Opens}
+use Rattle.job_record.specs.Map.{KeyMap, no_columns, migrated_beside, held, IsRecord, IsRecordOf, Stands}
+use Rattle.job_record.specs.Opening.{Opens}
 use Rattle.job_record.specs.OpenMap.{IsBlank, IsFirst, IsMigrated, AreArchivesOf, OpensAs}
 use Rattle.job_record.specs.Rows.{OpensWithRows}
 use Rattle.record_program.specs.Views.{views_text}
@@ -89,18 +89,18 @@ module _ (old new : State) where
   still_record u it = record {
     schema = subst (λ (d : Database). HasRecord d.schema) (sym u.0.now_is) it.schema;
     sound = subst IsDatabase (sym u.0.now_is) it.sound;
-    keyed = subst (λ (d : Database). IsKeyed (d.trees 2)) (sym u.0.now_is) it.keyed;
-    kept = subst (λ (d : Database). IsKeyed (d.trees 4)) (sym u.0.now_is) it.kept;
-    ordered = subst (λ (d : Database). IsTable (d.trees 4)) (sym u.0.now_is) it.ordered;
+    keyed = subst (λ (d : Database). IsKeyed (d.trees (job_tree d.schema))) (sym u.0.now_is) it.keyed;
+    kept = subst (λ (d : Database). IsKeyed (d.trees (archive_tree d.schema))) (sym u.0.now_is) it.kept;
+    ordered = subst (λ (d : Database). IsTable (d.trees (archive_tree d.schema))) (sym u.0.now_is) it.ordered;
     settled = u.0.committed_is ∙ it.settled ∙ sym u.0.now_is;
     autocommit = u.0.mode ∙ it.autocommit;
   }
 
   pub still_first : IsUnchanged old new → IsFirst old → IsFirst new
   still_first u it = record {
-    schema = ap (λ (d : Database). d.schema) u.0.now_is ∙ it.schema;
+    schema = subst (λ (d : Database). HasFirst d.schema) (sym u.0.now_is) it.schema;
     sound = subst IsDatabase (sym u.0.now_is) it.sound;
-    keyed = subst (λ (d : Database). IsKeyed (d.trees 2)) (sym u.0.now_is) it.keyed;
+    keyed = subst (λ (d : Database). IsKeyed (d.trees (job_tree d.schema))) (sym u.0.now_is) it.keyed;
     settled = u.0.committed_is ∙ it.settled ∙ sym u.0.now_is;
     autocommit = u.0.mode ∙ it.autocommit;
   }
@@ -111,25 +111,25 @@ module _ (old new : State) where
 
   pub still_blank : IsUnchanged old new → IsBlank old → IsBlank new
   still_blank u b = record {
-    schema = ap (λ (d : Database). d.schema) u.0.now_is ∙ b.schema;
+    schema = subst (λ (d : Database). IsVacant d.schema) (sym u.0.now_is) b.schema;
     settled = u.0.committed_is ∙ b.settled ∙ sym u.0.now_is;
     autocommit = u.0.mode ∙ b.autocommit;
   }
 
   same_held : IsUnchanged old new → held new ≡ held old
-  same_held u = ap (λ (d : Database). held_in (d.trees 2)) u.0.now_is
+  same_held u = ap (λ (d : Database). held_in (d.trees (job_tree d.schema))) u.0.now_is
 
   was_migrated : IsUnchanged old new → (map : KeyMap) → IsMigrated new map → IsMigrated old map
   was_migrated u map it = record {
     rows = λ key. it.rows key ∙ ap (λ (f : List ℕ → Option Columns). f key) (same_held u);
     archives = subst (λ (f : List ℕ → Option Columns). AreArchivesOf f map.archives) (same_held u) it.archives;
-    beside = it.beside;
+    beside = it.beside ∙ ap migrated_beside u.0.now_is;
   }
 
 module _ (budget : Option ℕ) (old mid new : State) (spares : MayOpen old → IsUnchanged old mid) where
   opens_as : OpensAs budget mid new → OpensAs budget old new
   opens_as opens = record {
-    made = λ blank. opens.made (still_blank old mid (spares (inl blank)) blank);
+    made = λ blank. let u = spares (inl blank) in subst (λ d. IsRecordOf new (no_columns d budget)) u.0.now_is (opens.made (still_blank old mid u blank));
     migrated = λ first.
         let u = spares (inr (inl first)) in
         let later = opens.migrated (still_first old mid u first) in
@@ -141,7 +141,7 @@ module _ (budget : Option ℕ) (old mid new : State) (spares : MayOpen old → I
     noted = λ blank. opens.noted (still_blank old mid (spares (inl blank)) blank);
     renoted = λ first keyed.
         let u = spares (inr (inl first)) in
-        opens.renoted (still_first old mid u first) (subst (λ (d : Database). IsKeyed (d.trees 0)) (sym u.0.now_is) keyed);
+        opens.renoted (still_first old mid u first) (subst (λ (d : Database). IsKeyed (d.trees (meta_tree d.schema))) (sym u.0.now_is) keyed);
   }
 
   opens_with : OpensWithRows budget mid new → OpensWithRows budget old new

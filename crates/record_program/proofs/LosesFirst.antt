@@ -1,6 +1,6 @@
 -- The first archives of a record go one after another, and nothing else does.
-use Rattle.std.proofs.Common.{◌≡◌, ◌≢◌, Bool, true, false, if◌then◌else◌, nat_le, ℕ, suc, zero, ◌+◌, ◌-◌, ◌≤◌, ◌<◌, List, [], ◌∷◌, length, take, drop, get_or, Option, Some, Result, Ok, Err, refl, sym, ap, subst, ◌∙◌, arith}
-use Rattle.std.specs.Prelude.{IfOk, IfErr, OnOk, None, slice_get}
+use Rattle.std.proofs.Common.{◌≡◌, ◌≢◌, Bool, true, false, if◌then◌else◌, nat_le, ℕ, suc, zero, ◌+◌, ◌-◌, ◌≤◌, ◌<◌, List, [], ◌∷◌, length, take, drop, get_or, Some, Result, Ok, Err, refl, sym, ap, subst, ◌∙◌, arith}
+use Rattle.std.specs.Prelude.{IfOk, IfErr, OnOk, slice_get}
 use Rattle.sqlite.specs.State.{State}
 use Rattle.job_rows.specs.declared.archive.Archive.{Archive}
 use Rattle.job_rows.specs.Map.{keys_in, total_bytes, lost_count}
@@ -9,10 +9,10 @@ use Rattle.job_record.specs.declared.changes.Space.{Space}
 use Rattle.job_record.specs.declared.fault.RecordFault.{RecordFault}
 use Rattle.job_record.specs.declared.fault.RecordFault.TheVariants.{NotARecord, WrongVersion, NoRow, Store, UsesSpent, OutOfMemory}
 use Rattle.job_record.specs.Counted.{FitsSpace, IsCount}
-use Rattle.job_record.specs.Map.{KeyMap, IsRecordOf, Stands, ArchivesIn, ChangesIn, changed_by, unarchives}
+use Rattle.job_record.specs.Map.{KeyMap, IsRecordOf, ArchivesIn, ChangesIn, changed_by, unarchives}
 use Rattle.job_record.proofs.Losing.{count_is, first_more, apart_rest, loses_first, loses_more}
-use Rattle.record_program.specs.Trimming.{without_first, lost_keys, lost_in, LacksFirst, Trims}
-use Rattle.record_program.specs.inner.Steps.{StaysOf, HoldsLost, LosesOne, LosesFirst}
+use Rattle.record_program.specs.Trimming.{without_first, lost_keys, lost_in, Trims}
+use Rattle.record_program.specs.inner.Steps.{HoldsLost, LosesOne, LosesFirst}
 use Rattle.record_program.proofs.LeavesOthers.{unchanged_of, stays_of}
 
 -- ---- the keys

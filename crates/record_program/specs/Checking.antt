@@ -1,8 +1,8 @@
 -- Which folders of a cache's files no archive of its record has, and which archives have no folder.
-use Rattle.std.specs.Prelude.{◌≡◌, ◌⊎◌, ◌<◌, ℕ, Bool, not, ◌&&◌, ◌||◌, ◌==◌, nat_le, if◌then◌else◌, List, [], ◌∷◌, length, map, filter, bytes_eq}
+use Rattle.std.specs.Prelude.{◌≡◌, ◌⊎◌, ◌<◌, ℕ, Bool, false, not, ◌&&◌, ◌||◌, ◌==◌, nat_le, is_some, if◌then◌else◌, List, [], ◌∷◌, length, map, filter, bytes_eq}
 use Rattle.std.specs.List.{list_all, list_any}
 use Rattle.sqlite_rules.specs.Lists.{Has}
-use Rattle.plain_data.specs.ByName.{by_name, names, times}
+use Rattle.plain_data.specs.ByName.{by_name, names, times, value_at}
 use Rattle.job_rows.specs.declared.archive.Archive.{Archive}
 use Rattle.job_record.specs.declared.fault.RecordFault.{RecordFault}
 use Rattle.job_record.specs.declared.fault.RecordFault.TheVariants.{NotARecord, OutOfMemory}
@@ -38,17 +38,26 @@ in_order texts = names (by_name (entries texts))
 abbrev pub is_among : List (List ℕ) → List ℕ → Bool
 is_among texts text = list_any (bytes_eq text) texts
 
--- those of the texts that are not among the others
-abbrev pub lacking : (others texts : List (List ℕ)) → List (List ℕ)
-lacking others texts = filter (λ text. not (is_among others text)) (in_order texts)
+-- a folder is all that is left of an archive: it is what stores of it left, and the archive's own is not there
+abbrev pub is_only_left : (is_folder is_archive : List ℕ → Bool) → (name : List ℕ) → Bool
+is_only_left is_folder is_archive [] = false
+is_only_left is_folder is_archive (b ∷ sum) = (b == 46) && (is_archive sum && not (is_folder sum))
 
--- the folders of these that no archive has: what a cut-off store left is never one
+-- a folder may have the files of an archive
+abbrev pub may_hold : (is_folder is_archive : List ℕ → Bool) → (name : List ℕ) → Bool
+may_hold is_folder is_archive name = is_archive name || is_only_left is_folder is_archive name
+
+-- the folders of these that have nothing of an archive
 abbrev pub unknown : (found : List (List ℕ)) → List Archive → List (List ℕ)
-unknown found archives = lacking (sums archives) (stored found)
+unknown found archives = filter (λ name. not (may_hold (is_among (stored found)) (is_among (sums archives)) name)) (in_order (stored found))
 
 -- the archives that have no folder
 abbrev pub missing : (found : List (List ℕ)) → List Archive → List (List ℕ)
-missing found archives = lacking (stored found) (sums archives)
+missing found archives = filter (λ sum. not (is_among (stored found) sum)) (in_order (sums archives))
+
+-- a text is in a table of names
+abbrev pub is_in : List (List ℕ × Unit {0}) → List ℕ → Bool
+is_in table text = is_some (value_at text table)
 
 -- one of the texts is there twice
 abbrev pub HasTwice : List (List ℕ) → Type 0
@@ -66,7 +75,8 @@ AreRepeated found archives = HasTwice (stored found) ⊎ HasTwice (sums archives
 abbrev pub Refuses : (found : List (List ℕ)) → List Archive → RecordFault → Type 0
 Refuses found archives fault = (fault ≡ OutOfMemory) ⊎ ((fault ≡ NotARecord) × AreRepeated found archives)
 
--- a folder that no archive has is that of no archive, and is one of those that were found
+-- A folder that is called unknown is one of those that were found, and no archive's own. If stores of an archive left it, that archive's own is there.
 abbrev pub SparesArchives : Type 0
 SparesArchives = (found : List (List ℕ)) (archives : List Archive) (name : List ℕ) → Has (unknown found archives) name
-    → ((archive : Archive) → Has archives archive → ¬ (key_sum archive.key ≡ name)) × Has (stored found) name
+    → Has (stored found) name
+    × ((archive : Archive) → Has archives archive → ¬ (key_sum archive.key ≡ name) × (46 ∷ key_sum archive.key ≡ name → Has (stored found) (key_sum archive.key)))

@@ -1,7 +1,7 @@
 //! What the folder of a cache's files has that its record does not know, and the other way round.
-ghost use Rattle.std.specs.Prelude.{◌≡◌, ◌<◌, IfOk, IfErr, filter, is_some, not};
+ghost use Rattle.std.specs.Prelude.{◌≡◌, ◌<◌, IfOk, IfErr, filter, not};
 ghost use Rattle.std.specs.List.{list_all};
-ghost use Rattle.plain_data.specs.ByName.{by_name, names, times, value_at};
+ghost use Rattle.plain_data.specs.ByName.{by_name, names, times};
 ghost use Rattle.job_record.specs.declared.fault.RecordFault.TheVariants.{NotARecord, OutOfMemory};
 ghost use Rattle.record_program.specs.Checking as spec;
 
@@ -17,7 +17,7 @@ const DIGITS: usize = 40;
 /// How the folder of a cache's files and the archives of its record differ, in the order of bytes.
 #[derive(Drop)]
 pub struct Difference {
-    /// The names of folders that are no archive's.
+    /// The names of folders that have nothing of an archive.
     pub unknown: Items<Text>,
     /// The sums of the keys of archives that have no folder.
     pub missing: Items<Text>,
@@ -45,14 +45,15 @@ pub fn compared(
 
 fn differ(alloc: Global, folders: &Keyed<()>, sums: &Keyed<()>) -> Result<Difference, RecordFault>
     ensures unknown { IfOk result (λ found. found.unknown
-        ≡ filter (λ name. not (is_some (value_at name sums.now))) (names folders.now)) }
+        ≡ filter (λ name. not (spec.may_hold (spec.is_in folders.now) (spec.is_in sums.now) name))
+        (names folders.now)) }
     ensures missing { IfOk result (λ found. found.missing
-        ≡ filter (λ sum. not (is_some (value_at sum folders.now))) (names sums.now)) }
+        ≡ filter (λ sum. not (spec.is_in folders.now sum)) (names sums.now)) }
     ensures err { IfErr result (λ fault. fault ≡ OutOfMemory) }
 {
     Ok(Difference {
-        unknown: lacking(alloc, sums, folders)?,
-        missing: lacking(alloc, folders, sums)?,
+        unknown: unknown_of(alloc, folders, sums)?,
+        missing: missing_of(alloc, folders, sums)?,
     })
 }
 
@@ -81,15 +82,53 @@ fn in_order(texts: Vec<(Text, ())>) -> Result<Keyed<()>, RecordFault>
     }
 }
 
-// Those of the texts that are not among the others, each found by halving.
-fn lacking(alloc: Global, others: &Keyed<()>, texts: &Keyed<()>) -> Result<Items<Text>, AllocError>
+// Each is found by halving.
+fn unknown_of(
+    alloc: Global,
+    folders: &Keyed<()>,
+    sums: &Keyed<()>,
+) -> Result<Items<Text>, AllocError>
     ensures { IfOk result (λ left. left
-        ≡ filter (λ text. not (is_some (value_at text others.now))) (names texts.now)) }
+        ≡ filter (λ name. not (spec.may_hold (spec.is_in folders.now) (spec.is_in sums.now) name))
+        (names folders.now)) }
 {
     let mut left = Items::new(alloc);
-    for text in texts.as_slice() {
-        if !others.contains(text.0.as_str()) {
-            left.push(text.0.copied(alloc)?)?;
+    for folder in folders.as_slice() {
+        if !may_hold(folders, sums, folder.0.as_str()) {
+            left.push(folder.0.copied(alloc)?)?;
+        }
+    }
+    Ok(left)
+}
+
+// Whether a folder may have the files of an archive: it is its own, or the only one that stores of it left.
+fn may_hold(folders: &Keyed<()>, sums: &Keyed<()>, name: &str) -> bool
+    ensures { result ≡ spec.may_hold (spec.is_in folders.now) (spec.is_in sums.now) name.now }
+{
+    sums.contains(name) || is_only_left(folders, sums, name)
+}
+
+fn is_only_left(folders: &Keyed<()>, sums: &Keyed<()>, name: &str) -> bool
+    ensures { result ≡ spec.is_only_left (spec.is_in folders.now) (spec.is_in sums.now) name.now }
+{
+    match name.strip_prefix('.') {
+        Some(sum) => sums.contains(sum) && !folders.contains(sum),
+        None => false,
+    }
+}
+
+fn missing_of(
+    alloc: Global,
+    folders: &Keyed<()>,
+    sums: &Keyed<()>,
+) -> Result<Items<Text>, AllocError>
+    ensures { IfOk result (λ left. left
+        ≡ filter (λ sum. not (spec.is_in folders.now sum)) (names sums.now)) }
+{
+    let mut left = Items::new(alloc);
+    for sum in sums.as_slice() {
+        if !folders.contains(sum.0.as_str()) {
+            left.push(sum.0.copied(alloc)?)?;
         }
     }
     Ok(left)

@@ -5,7 +5,10 @@ ghost use Rattle.sqlite.specs.Files.{file_state};
 ghost use Rattle.sqlite.specs.Start.{FindsIn};
 ghost use Rattle.sqlite.specs.State.{HasCleanDisk, IsLive, Opens, State};
 
-use sqlite::{Connection, Error, File, FileStore, Leftover, Start, Unknown};
+use crate::copying::{CopiedFiles, copied};
+use crate::look::looked;
+use job_record::RecordFault;
+use sqlite::{Connection, Error, ErrorCode, File, FileStore, Leftover, Start, Unknown};
 use sqlite_disk::Disk;
 
 /// A runtime that opens databases by the names of their files.
@@ -23,9 +26,14 @@ pub trait Databases {
     ) -> Result<Connection<FileStore<Self::Medium>>, (Error, Option<Leftover<Self::Medium>>)>
         ensures opened { IfOk result (λ conn. opens self.now file.now (file_state conn)) }
         ensures settled { IfOk result (λ conn. conn.in_transaction ≡ false) };
+
+    /// Opens a copy of what the database of a file holds now. What is changed in it goes with it.
+    fn open_copy(&self, file: &str) -> Result<Connection<FileStore<Self::Medium>>, RecordFault>
+        ensures opened { IfOk result (λ conn. opens self.now file.now (file_state conn)) }
+        ensures settled { IfOk result (λ conn. conn.in_transaction ≡ false) };
 }
 
-// This is the one place that opens a file, by the name that is given. No clause of `open_from` has that name.
+// This is the one place that opens a file, by the name that is given, or a copy of it. No clause of `open_from` has that name.
 impl Databases for HostRuntime {
     type Medium = File;
 
@@ -36,5 +44,34 @@ impl Databases for HostRuntime {
         file: &str,
     ) -> Result<Connection<FileStore<File>>, (Error, Option<Leftover<File>>)> {
         Connection::open_from(self, file, false, Unknown)
+    }
+
+    fn open_copy(&self, file: &str) -> Result<Connection<FileStore<File>>, RecordFault> {
+        match copied(self, file) {
+            Ok(copy) => {
+                let opened = opened_copy(self, &copy);
+                copy.remove(self);
+                opened
+            }
+            Err(_) => Err(RecordFault::Store(Error::SqliteFailure(ErrorCode::CannotOpen))),
+        }
+    }
+}
+
+fn opened_copy(
+    rt: &HostRuntime,
+    copy: &CopiedFiles,
+) -> Result<Connection<FileStore<File>>, RecordFault>
+    ensures found { IfOk result (λ conn. HasCleanDisk (file_state conn) → (Opens (file_state conn)
+        × IsLive (file_state conn)) × FindsIn (image_at ⟦<Unknown as Start>⟧) (file_state conn)) }
+    ensures settled { IfOk result (λ conn. conn.in_transaction ≡ false) }
+{
+    let look = looked(rt, copy.file())?;
+    if look.is_empty() {
+        return Err(RecordFault::NotARecord);
+    }
+    match Connection::open_from(rt, copy.file(), false, Unknown) {
+        Ok(conn) => Ok(conn),
+        Err((error, _)) => Err(RecordFault::Store(error)),
     }
 }

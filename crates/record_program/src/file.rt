@@ -9,11 +9,12 @@ ghost use Rattle.record_program.specs.declared.ending.Ending.{Ending};
 ghost use Rattle.record_program.specs.declared.listing.Listing.{Listing};
 
 use crate::closing::{forgotten_for_good, left_of};
+use crate::copying::may_be_copied;
 use crate::databases::Databases;
 use crate::ending::Ending;
 use crate::held::trimmed_on;
 use crate::kept::{FileLeft, FileRecord};
-use crate::listing::{Listing, listed_on};
+use crate::listing::{Listing, listed_on, seen_on};
 use crate::look::{Look, looked, looked_if_there, remove_log};
 use crate::store::shown_in;
 use crate::tables::as_record;
@@ -72,12 +73,23 @@ pub trait Records {
         ensures whose { IfOk result (lists self.now file.now) }
         ensures err { IfErr result ShowsNone };
 
+    /// The same, and if another holds the file or it may not be written, of a copy of it: nothing is changed then.
+    fn see_rows(&self, file: &str) -> Result<Listing, Ending>
+        ensures whose { IfOk result (lists self.now file.now) }
+        ensures err { IfErr result ShowsNone };
+
     /// Opens the record of a file. The archives may have together at most as many bytes as the budget, if there is one. Makes a record
     /// where nothing is there, and in a database that has none of its tables, and one of version 2 of one of version 1. What is
     /// refused keeps every byte. No other process can open it until it is closed.
     fn open_record(&self, file: &str, budget: Option<u64>) -> Result<Self::Kept, RecordFault>
         ensures log { IfOk result (λ kept. Self.Kept.log kept ≡ []) }
         ensures whose { IfOk result (opens self.now file.now budget) };
+
+    /// Opens the record of a file without a budget, to look at it: if another holds the file or it may not be written, a copy of it. What is
+    /// changed in a copy goes with it.
+    fn see_record(&self, file: &str) -> Result<Self::Kept, RecordFault>
+        ensures log { IfOk result (λ kept. Self.Kept.log kept ≡ []) }
+        ensures whose { IfOk result (opens self.now file.now None) };
 
     /// Closes a record in good order, so that the file alone holds it. Where that can't be done its log stays beside the file,
     /// and no row is lost.
@@ -112,8 +124,19 @@ impl Records for HostRuntime {
         listed_on(self, file)
     }
 
+    fn see_rows(&self, file: &str) -> Result<Listing, Ending> {
+        seen_on(self, file)
+    }
+
     fn open_record(&self, file: &str, budget: Option<u64>) -> Result<FileRecord, RecordFault> {
         match opened(self, file, budget) {
+            Ok(rows) => Ok(FileRecord { rows }),
+            Err(fault) => Err(fault),
+        }
+    }
+
+    fn see_record(&self, file: &str) -> Result<FileRecord, RecordFault> {
+        match seen(self, file) {
             Ok(rows) => Ok(FileRecord { rows }),
             Err(fault) => Err(fault),
         }
@@ -160,6 +183,36 @@ fn opened<R: AllocGlobal + Folder + Databases>(
     match looked_if_there(rt, file) {
         Ok(Some(look)) => opened_at(rt, file, look.new_log(), budget),
         Ok(None) => opened_at(rt, file, None, budget),
+        Err(fault) => Err(fault),
+    }
+}
+
+fn seen<R: AllocGlobal + Folder + Databases>(
+    rt: &R,
+    file: &str,
+) -> Result<JobRecord<FileStore<R::Medium>>, RecordFault>
+    ensures log { IfOk result (λ kept. kept.log.items ≡ []) }
+    ensures whose { IfOk result (λ kept. IsRecordOf R.Medium.Disk (R.opens rt.now file.now)
+        None kept.conn) }
+{
+    match opened(rt, file, None) {
+        Ok(kept) => Ok(kept),
+        Err(fault) => seen_in_copy(rt, file, fault),
+    }
+}
+
+/// The record in a copy of a file that could not be opened for this, if that may help.
+pub fn seen_in_copy<R: AllocGlobal + Folder + Databases>(
+    rt: &R,
+    file: &str,
+    fault: RecordFault,
+) -> Result<JobRecord<FileStore<R::Medium>>, RecordFault>
+    ensures log { IfOk result (λ kept. kept.log.items ≡ []) }
+    ensures whose { IfOk result (λ kept. IsRecordOf R.Medium.Disk (R.opens rt.now file.now)
+        None kept.conn) }
+{
+    match copy_of(rt, file, fault) {
+        Ok(conn) => opened_in(rt, conn, None, None, false),
         Err(fault) => Err(fault),
     }
 }
@@ -279,15 +332,54 @@ fn in_look<R: AllocGlobal + Folder + Databases>(
         return Ending::Record(RecordFault::NotARecord);
     }
     match database_of(rt, file, look.new_log()) {
-        Ok(conn) => in_database(rt, conn, look, forget),
+        Ok(conn) => in_database(rt, conn, look.new_log(), forget),
+        Err(fault) => in_copy(rt, file, fault, forget),
+    }
+}
+
+// To forget rows takes the file itself. What is shown of a copy leaves no log beside the file.
+#[tactic(auto, using(crate::specs::Opened::unshown, crate::proofs::Unshown::is_ending))]
+fn in_copy<R: AllocGlobal + Folder + Databases>(
+    rt: &R,
+    file: &str,
+    fault: RecordFault,
+    forget: Option<&str>,
+) -> Ending
+    ensures ending { IsEnding result }
+    ensures whose { EndsOn R.Medium.Disk (R.opens rt.now file.now)
+        (option_map (λ sum. sum.now) forget.entry) result }
+{
+    if forget.is_some() {
+        return Ending::Record(fault);
+    }
+    match copy_of(rt, file, fault) {
+        Ok(conn) => in_database(rt, conn, None, forget),
         Err(fault) => Ending::Record(fault),
+    }
+}
+
+/// A copy of a database that could not be opened for this, if that may help.
+pub fn copy_of<R: Databases>(
+    rt: &R,
+    file: &str,
+    fault: RecordFault,
+) -> Result<Connection<FileStore<R::Medium>>, RecordFault>
+    ensures opened { IfOk result (λ conn. R.opens rt.now file.now (file_state conn)) }
+    ensures settled { IfOk result (λ conn. conn.in_transaction ≡ false) }
+{
+    if !may_be_copied(&fault) {
+        return Err(fault);
+    }
+    match rt.open_copy(file) {
+        Ok(conn) => Ok(conn),
+        Err(_) => Err(fault),
     }
 }
 
 fn in_database<F: AllocGlobal + Folder, D: Disk + Drop>(
     rt: &F,
     conn: Connection<FileStore<D>>,
-    look: &Look,
+    new_log: Option<&str>,
     forget: Option<&str>,
 ) -> Ending
     requires { conn.in_transaction ≡ false }
@@ -295,8 +387,8 @@ fn in_database<F: AllocGlobal + Folder, D: Disk + Drop>(
     ensures ends { EndsWith D.Disk conn (option_map (λ sum. sum.now) forget.entry) result }
 {
     match forget {
-        Some(sum) => without_rows(rt, conn, look.new_log(), sum),
-        None => only_shown(rt, conn, look.new_log()),
+        Some(sum) => without_rows(rt, conn, new_log, sum),
+        None => only_shown(rt, conn, new_log),
     }
 }
 

@@ -11,6 +11,7 @@
 
 mod checking;
 mod closing;
+mod copying;
 mod databases;
 mod ending;
 mod file;
@@ -29,6 +30,7 @@ mod words;
 
 pub use checking::{Difference, compared};
 pub use closing::{forgotten_for_good, trimmed_for_good};
+pub use copying::is_unwritable;
 pub use databases::Databases;
 pub use ending::{Ending, unclosed};
 pub use file::{Records, main_run};

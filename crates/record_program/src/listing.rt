@@ -9,6 +9,7 @@ ghost use Rattle.record_program.specs.Listing.{Lists, IsListing, ListsOn};
 use crate::closing::left_of;
 use crate::databases::Databases;
 use crate::ending::Ending;
+use crate::file::seen_in_copy;
 use crate::held::held_record;
 use job_record::{JobRecord, RecordFault};
 use job_rows::{Archive, Row};
@@ -35,6 +36,32 @@ pub fn listed_on<R: AllocGlobal + Folder + Databases>(rt: &R, file: &str) -> Res
     match held_record(rt, file) {
         Ok(kept) => listed_in(kept),
         Err(ending) => Err(ending),
+    }
+}
+
+/// The same, and of a copy of the file if another holds it or it may not be written.
+pub fn seen_on<R: AllocGlobal + Folder + Databases>(rt: &R, file: &str) -> Result<Listing, Ending>
+    ensures whose { IfOk result (ListsOn R.Medium.Disk (R.opens rt.now file.now)) }
+    ensures err { IfErr result ShowsNone }
+{
+    match held_record(rt, file) {
+        Ok(kept) => listed_in(kept),
+        Err(Ending::Record(fault)) => listed_in_copy(rt, file, fault),
+        Err(ending) => Err(ending),
+    }
+}
+
+fn listed_in_copy<R: AllocGlobal + Folder + Databases>(
+    rt: &R,
+    file: &str,
+    fault: RecordFault,
+) -> Result<Listing, Ending>
+    ensures whose { IfOk result (ListsOn R.Medium.Disk (R.opens rt.now file.now)) }
+    ensures err { IfErr result ShowsNone }
+{
+    match seen_in_copy(rt, file, fault) {
+        Ok(kept) => listed_in(kept),
+        Err(fault) => Err(Ending::Record(fault)),
     }
 }
 

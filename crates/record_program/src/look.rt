@@ -92,8 +92,8 @@ fn head_at<R: AllocGlobal + Files>(rt: &R, file: &str) -> Result<Head, RecordFau
     Ok(head_of(&bytes[..count]))
 }
 
-// As in SQLite, the log lies beside the file that a link leads to.
-fn log_name<R: AllocGlobal + Files>(rt: &R, file: &str) -> Result<String, RecordFault> {
+/// As in SQLite, the log lies beside the file that a link leads to.
+pub fn log_name<R: AllocGlobal + Files>(rt: &R, file: &str) -> Result<String, RecordFault> {
     match fs::canonicalize(rt, file) {
         Ok(path) => Ok(format!(in rt.alloc(); "{}-wal", path.as_str())?),
         Err(error) => Err(of_io(&error)),

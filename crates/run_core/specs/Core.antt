@@ -1,26 +1,36 @@
 -- What each call of the machine does.
-use Rattle.std.specs.Prelude.{◌≡◌, ◌≢◌, ◌<◌, ◌+◌, ℕ, List, [], ◌∷◌, ◌++◌, Option, Some, None, Result, Err, IfErr, OnOk, OnErr, length}
+use Rattle.std.specs.Prelude.{◌≡◌, ◌≢◌, ◌<◌, ◌+◌, ℕ, List, [], ◌∷◌, ◌++◌, Option, Some, None, Result, Err, IfErr, OnOk, OnErr, length, option_map}
 use Rattle.document_links.specs.declared.process.Process.{Process}
 use Rattle.plan_checker.specs.Certificate.{IsCertificate}
+use Rattle.plan_checker.specs.declared.charges.Charges.{Charges}
+use Rattle.plan_checker.specs.declared.plan.Mark.{Mark}
+use Rattle.plan_checker.specs.declared.plan.Plan.{Plan}
+use Rattle.plan_checker.specs.declared.vertex.Vertex.{Vertex}
+use Rattle.run_rules.specs.declared.outcome.Outcome.{Outcome}
 use Rattle.run_rules.specs.declared.outcome.RunFault.{RunFault}
 use Rattle.run_rules.specs.declared.request.Answer.{Answer}
 use Rattle.run_rules.specs.declared.request.Request.{Request}
 use Rattle.run_rules.specs.declared.request.Pair.{Pair}
 use Rattle.run_rules.specs.declared.setting.Options.{Options}
-use Rattle.run_rules.specs.Allowed.{Allowed}
+use Rattle.run_rules.specs.Allowed.{Allowed, IsOpen}
 use Rattle.run_rules.specs.Answers.{MayAnswer, flying_after}
-use Rattle.run_rules.specs.Events.{Progress}
+use Rattle.run_rules.specs.End.{End}
+use Rattle.run_rules.specs.EndsSo.{EndsSo}
+use Rattle.run_rules.specs.Events.{Progress, unfolding_at}
 use Rattle.run_rules.specs.Plans.{PlansSoFar, no_plans}
-use Rattle.run_rules.specs.Reports.{AreWaits, entries_of}
+use Rattle.run_rules.specs.Reports.{AreWaits, entries_of, outcome_of}
 use Rattle.run_rules.specs.Run.{IsRunSoFar}
-use Rattle.run_rules.specs.Scene.{scene_of}
+use Rattle.run_rules.specs.Scene.{Scene, scene_of}
 use Rattle.run_rules.specs.UnderKey.{IsUnderKey}
+use Rattle.job_graph.specs.Jobs.{Job}
+use Rattle.job_graph.specs.UnfoldedSoFar.{UnfoldedSoFar}
 use Rattle.job_graph.specs.Words.{Fields}
 use Rattle.proc_host.specs.declared.call.HostAnswer.{HostAnswer}
 use Rattle.proc_host.specs.declared.call.HostFault.{HostFault}
 use Rattle.proc_host.specs.declared.call.HostRequest.{HostRequest}
 use Rattle.run_core.specs.declared.counts.PlanCounts.{PlanCounts}
-use Rattle.run_core.specs.Machine.{Machine, PlanNow, is_draining, is_over}
+use Rattle.run_core.specs.declared.halted.Halted.{Halted}
+use Rattle.run_core.specs.Machine.{Machine, PlanNow, is_draining, is_over, plan_of}
 use Rattle.run_core.specs.Order.{IsFirst}
 
 -- it gave up as out of memory, and waits for no child any more
@@ -131,3 +141,32 @@ pub record GaveUp (old : Machine) (result : Result (Unit {0}) RunFault) (new : M
   pub err : IfErr result (λ fault. fault ≡ RunFault.OutOfMemory)
   pub lost : OnErr result (IsLost new)
   pub finished : OnErr result (new.asks ≡ Request.Finished)
+
+-- memory has not run out, and no child is in flight
+pub record IsAtRest (core : Machine) : Type 0 where
+  pub not_lost : IsLost core → ⊥
+  pub none_in_flight : core.asks ≢ Request.Finished → core.flying ≡ []
+
+-- a run so far may go on by this request, or it has come to this
+pub data GoesOrEnded (s : Scene) (f : Progress) (marks : List Mark) (asks : Request) : Option (Result Outcome RunFault) → Type 0 where
+  goes : Allowed s f marks asks → GoesOrEnded s f marks asks None
+  ended : (end : End) → EndsSo s f marks end → GoesOrEnded s f marks asks (Some (outcome_of end))
+
+-- the jobs of what is known
+abbrev pub jobs_of : Option UnfoldedSoFar → List Job
+jobs_of None = []
+jobs_of (Some known) = known.known
+
+-- a plan with its graph and charges
+abbrev pub plan_in : List Vertex × Plan × Charges → PlanNow
+plan_in planned = plan_of planned.0 planned.1 planned.2
+
+-- what it asked and was answered is a run so far, which may go on or has come to this outcome; this was planned there last, and these jobs are
+-- known, unless work is due or the end is settled
+pub record Halts (core : Machine) (halted : Halted) : Type 0 where
+  pub happened : Progress
+  pub plans : PlansSoFar
+  pub run : IsRunSoFar core.setting core.transcript happened plans
+  pub stands : GoesOrEnded (scene_of core.setting) happened plans.marks core.asks halted.outcome
+  pub shows : Shows plans (option_map plan_in halted.planned)
+  pub jobs : IsOpen (scene_of core.setting) happened → jobs_of halted.known ≡ (unfolding_at (scene_of core.setting) happened.events).jobs

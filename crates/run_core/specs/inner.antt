@@ -8,6 +8,7 @@ pub mod Fetches
 pub mod Few
 pub mod Fits
 pub mod Follows
+pub mod Halted
 pub mod Inside
 pub mod FoundRows
 pub mod JobStates

@@ -22,6 +22,7 @@ mod files;
 mod finding;
 mod folders;
 mod found_rows;
+mod halted;
 mod job_states;
 mod keeping;
 mod measuring;
@@ -39,6 +40,7 @@ mod turn;
 mod turns;
 
 pub use counts::PlanCounts;
+pub use halted::Halted;
 pub use run_rules::{
     Answer, Cause, CollectCause, Note, NoteKind, Options, Outcome, Pair, PlanNote, RecordAnswer,
     RecordRequest, Report, Request, RunFault, Setting,

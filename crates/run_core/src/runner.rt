@@ -7,7 +7,7 @@ ghost use Rattle.run_rules.specs.Blame.{BlamesRightly, Rise, given_tickets};
 ghost use Rattle.run_rules.specs.Reports.{entries_of, reported, Concludes};
 ghost use Rattle.job_graph.specs.Words.{JobPlace};
 ghost use Rattle.run_core.specs.declared.state.Phase.{Phase};
-ghost use Rattle.run_core.specs.Core.{HasCounted, HasNotRunOut, HasPlans, IsLost, MayAsk, MayTake, Begins, StaysLost, Took, GaveUp};
+ghost use Rattle.run_core.specs.Core.{HasCounted, HasNotRunOut, HasPlans, Halts, IsAtRest, IsLost, MayAsk, MayTake, Begins, StaysLost, Took, GaveUp};
 ghost use Rattle.run_core.specs.Limits.{IsWithinLimits};
 ghost use Rattle.run_core.specs.Machine.{plan_of};
 ghost use Rattle.run_core.specs.inner.Course.{past_of};
@@ -20,11 +20,12 @@ ghost use Rattle.workflow_check.specs.Checked.{fault_in};
 use crate::anyway::can_go_on;
 use crate::counts::PlanCounts;
 use crate::course::{at_first, reserve_one};
+use crate::halted::{Halted, Noted, noted_in, what_is_left};
 use crate::measuring::begun;
 use crate::state::{Course, Given, Phase, Turn};
 use crate::steps::answered;
 use crate::turn::{ended, given_up, lost};
-use crate::{Answer, Note, Options, Outcome, Pair, PlanNote, Report, Request, RunFault};
+use crate::{Answer, Options, Outcome, Pair, Report, Request, RunFault};
 use cwl_value::Value;
 use document_links::Process;
 use job_graph::see_ids;
@@ -233,6 +234,23 @@ impl<'a> RunCore<'a> {
         mem::drop(pairs);
         reported(phase_outcome(turn), course)
     }
+
+    /// Stops it as it is, and hands out what is known by then, what was planned last, and what came of the process, if the
+    /// run has ended.
+    pub fn halt(self) -> Halted<'a>
+        ensures { IsAtRest self.entry → Halts self.entry result }
+    {
+        let RunCore {
+            alloc: _,
+            given,
+            pairs,
+            course,
+            turn,
+        } = self;
+        mem::drop(given);
+        mem::drop(pairs);
+        what_is_left(course, turn)
+    }
 }
 
 /// Comes to the first turn, with room for one pair and one more.
@@ -361,7 +379,14 @@ fn told_of(phase: &Phase) -> Result<(), RunFault>
 fn reported(outcome: Result<Outcome, RunFault>, course: Course<'_>) -> Result<Report, RunFault>
     ensures { result ≡ reported (past_of course.entry).plans (past_of course.entry).notes outcome }
 {
-    let Noted { plans, notes } = noted_in(course);
+    let Noted {
+        plans,
+        notes,
+        planned,
+        known,
+    } = noted_in(course);
+    mem::drop(planned);
+    mem::drop(known);
     match outcome {
         Ok(outcome) => Ok(Report {
             outcome,
@@ -374,48 +399,6 @@ fn reported(outcome: Result<Outcome, RunFault>, course: Course<'_>) -> Result<Re
             Err(fault)
         }
     }
-}
-
-/// What is noted of a run.
-#[derive(Drop)]
-struct Noted {
-    plans: Vec<PlanNote>,
-    notes: Vec<Note>,
-}
-
-/// The costs of the plans, and what went wrong without changing the end.
-fn noted_in(course: Course<'_>) -> Noted
-    ensures plans { result.plans.items ≡ (past_of course.entry).plans }
-    ensures notes { result.notes.items ≡ (past_of course.entry).notes }
-{
-    let Course {
-        tickets,
-        flights,
-        jobs,
-        folders: _,
-        looked_up: _,
-        rows,
-        lost,
-        notes,
-        planned,
-        touched: _,
-        rates: _,
-        keep: _,
-        plans,
-        counts: _,
-        known,
-        of_first: _,
-        end,
-    } = course;
-    mem::drop(tickets);
-    mem::drop(flights);
-    mem::drop(jobs);
-    mem::drop(rows);
-    mem::drop(lost);
-    mem::drop(planned);
-    mem::drop(known);
-    mem::drop(end);
-    Noted { plans, notes }
 }
 
 /// What came of the process by the last turn.

@@ -1,7 +1,9 @@
 pub mod Entries
 pub mod Holding
+pub mod KeyTexts
 pub mod Looks
 pub mod MadeBy
 pub mod Misfits
+pub mod NearestJob
 pub mod PastCalls
 pub mod ToolAt

@@ -1,17 +1,10 @@
--- What looks bring about: nothing is started, collected, fetched or lost by them.
+-- What looks bring about: nothing is started or fetched by them.
 use Rattle.std.specs.List.{list_all, list_any}
-use Rattle.std.specs.Prelude.{◌||◌, ◌&&◌}
-use Rattle.std.proofs.Common.{◌≡◌, ◌∙◌, ℕ, Bool, true, false, List, [], ◌∷◌, ◌++◌, fold, refl, ap}
-use Rattle.std.proofs.lemmas.Bool.{and_from, and_parts, or_from}
-use Rattle.std.proofs.lemmas.List.Folds.{list_all-append}
-use Rattle.job_graph.specs.Words.{JobPlace, is_same_place}
-use Rattle.run_rules.specs.End.{is_lost_collect}
-use Rattle.run_rules.specs.Events.{Event, archive_differs, brings, child_exited, collect_failed, files_fetched, flight_after, in_flight, is_at_hand, is_held, is_lost, job_repeated, job_started, job_succeeded, loses}
+use Rattle.std.proofs.Common.{◌≡◌, ◌∙◌, ℕ, Bool, true, false, List, [], ◌∷◌, fold, refl, ap}
+use Rattle.std.proofs.lemmas.Bool.{and_parts, or_from}
+use Rattle.job_graph.specs.Words.{JobPlace}
+use Rattle.run_rules.specs.Events.{Event, brings, child_exited, files_fetched, flight_after, in_flight, is_at_hand, job_repeated, job_started, job_succeeded}
 use Rattle.workflow_engine.specs.inner.Looks.{is_told}
-
-no_collect : (e : Event) → is_told e ≡ true → is_lost_collect e ≡ false
-no_collect collect_failed told = absurd cc
-no_collect _ told = refl
 
 no_flight : (flying : List (ℕ × JobPlace)) (e : Event) → is_told e ≡ true → flight_after flying e ≡ flying
 no_flight flying (job_started place inputs launch ticket) told = absurd cc
@@ -23,10 +16,6 @@ no_hand place (job_succeeded at outputs) told = absurd cc
 no_hand place (job_repeated at) told = absurd cc
 no_hand place (files_fetched at number) told = absurd cc
 no_hand place _ told = refl
-
-no_loss : (key : List ℕ) (e : Event) → is_told e ≡ true → loses key e ≡ false
-no_loss key (archive_differs place its_key number) told = absurd cc
-no_loss key _ told = refl
 
 none_of : (test : Event → Bool) → ((e : Event) → is_told e ≡ true → test e ≡ false) → (es : List Event) → list_all is_told es ≡ true → list_any test es ≡ false
 none_of test none [] told = refl
@@ -41,22 +30,8 @@ flies_on flying (e ∷ es) told =
     ap (λ (f : List (ℕ × JobPlace)). fold flight_after f es) (no_flight flying e both.0) ∙ flies_on flying es both.1
 
 module _ (es : List Event) (told : list_all is_told es ≡ true) where
-  pub none_collected : list_any is_lost_collect es ≡ false
-  none_collected = none_of is_lost_collect no_collect es told
-
   pub none_flies : in_flight es ≡ []
   none_flies = flies_on [] es told
 
   pub none_at_hand : (place : JobPlace) → is_at_hand es place ≡ false
   none_at_hand place = none_of (brings place) (no_hand place) es told
-
-  pub none_held : (place : JobPlace) → is_held es place ≡ false
-  none_held place =
-      ap (λ (flights : List (ℕ × JobPlace)). list_any (λ (f : ℕ × JobPlace). is_same_place f.1 place) flights || is_at_hand es place) none_flies ∙ none_at_hand place
-
-  pub none_lost : (key : List ℕ) → is_lost es key ≡ false
-  none_lost key = none_of (loses key) (no_loss key) es told
-
-  pub one_more_told : (e : Event) → is_told e ≡ true → list_all is_told (es ++ e ∷ []) ≡ true
-  one_more_told e one =
-      list_all-append is_told es (e ∷ []) ∙ and_from (list_all is_told es) (is_told e && true) told (and_from (is_told e) true one refl)

@@ -1,4 +1,3 @@
-pub mod Faults
 pub mod Held
 pub mod Looks
 pub mod Mapped

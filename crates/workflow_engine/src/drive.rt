@@ -1,11 +1,13 @@
 //! A whole run on a host and a record.
-ghost use Rattle.std.specs.Prelude.{◌≡◌, ◌++◌, [], None, IfErr};
+ghost use Rattle.std.specs.Prelude.{◌≡◌, ◌++◌, [], None, IfErr, OnErr, OnOk};
 ghost use Rattle.job_reuse.specs.Form.{AreInForm};
 ghost use Rattle.proc_host.specs.Log.{starts};
+ghost use Rattle.run_core.specs.Core.{IsLost};
 ghost use Rattle.run_core.specs.Limits.{IsWithinLimits};
 ghost use Rattle.run_rules.specs.Answers.{AreAnswers};
 ghost use Rattle.run_rules.specs.Recorded.{lines_of};
 ghost use Rattle.run_rules.specs.Reports.{entries_of};
+ghost use Rattle.run_rules.specs.declared.outcome.RunFault.{RunFault as Fault};
 ghost use Rattle.workflow_check.specs.Checked.{fault_in};
 ghost use Rattle.workflow_engine.specs.Blame.{BlamesRecord, HasRisingTickets, IsHostsFault};
 ghost use Rattle.workflow_engine.specs.inner.Held.{Covers};
@@ -99,18 +101,21 @@ fn drive<H: Host, R: Record, W: Watch>(
 {
     while !matches!(core.next(), Request::Finished) {
         let told = ask_next(host, rows, core.next(), core.known(), held, watcher);
-        tell(core, told);
+        mem::drop(tell(core, told));
     }
 }
 
-/// Tells the machine what was answered, or that the one who was asked ran out of memory.
-fn tell(core: &mut RunCore<'_>, told: Result<Answer, AllocError>)
+/// Tells the machine what was answered, or that the one who was asked ran out of memory. An `Err` is that the machine asks nothing
+/// more, since memory ran out: `finish` says so too.
+pub(crate) fn tell(core: &mut RunCore<'_>, told: Result<Answer, AllocError>) -> Result<(), RunFault>
     requires { MayBeTold core.old told }
-    ensures { IsTold core.old told core.new }
+    ensures told { IsTold core.old told core.new }
+    ensures ok { OnOk result (IsLost core.new → ⊥) }
+    ensures err { IfErr result (λ fault. fault ≡ Fault.OutOfMemory) }
+    ensures finished { OnErr result (core.new.asks ≡ Request.Finished) }
 {
-    // An error is that the machine asks nothing more: `finish` says so too.
     match told {
-        Ok(answer) => mem::drop(core.take(answer)),
-        Err(AllocError) => mem::drop(core.give_up()),
+        Ok(answer) => core.take(answer),
+        Err(AllocError) => core.give_up(),
     }
 }

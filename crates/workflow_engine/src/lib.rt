@@ -11,14 +11,15 @@ mod ask;
 mod ask_next;
 mod ask_record;
 mod drive;
-mod finds;
-mod measures;
+mod laws;
+mod looks;
 mod plan;
 mod planned;
 mod tickets;
 mod watch;
 
 pub use drive::run;
+pub use laws::runs_begin_with_the_first_plan;
 pub use plan::plan_only;
 pub use planned::{PlanFault, Planned};
 pub use watch::{Unwatched, Watch};

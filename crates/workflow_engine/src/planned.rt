@@ -1,9 +1,5 @@
 //! What is planned before anything is done.
-ghost use Rattle.std.specs.Prelude.{◌≡◌};
-ghost use Rattle.workflow_engine.specs.inner.Faults.{told_by};
-
 use cwl_value::JobPlace;
-use job_graph::{UnfoldError, UnfoldFault};
 use plain_data::Items;
 use plan_checker::{Charges, Graph, Plan};
 use run_core::{Cause, RunFault};
@@ -50,18 +46,5 @@ impl From<AllocError> for PlanFault {
 
     fn from(_error: AllocError) -> PlanFault {
         PlanFault::Run(RunFault::OutOfMemory)
-    }
-}
-
-/// How a fault of what is known is told.
-pub(crate) fn fault_of(error: UnfoldError) -> PlanFault
-    ensures { result ≡ told_by error }
-{
-    match error {
-        UnfoldError::OutOfMemory => PlanFault::Run(RunFault::OutOfMemory),
-        UnfoldError::Refused(UnfoldFault::TooManyJobs) => PlanFault::Run(RunFault::TooManyJobs),
-        UnfoldError::Refused(UnfoldFault::Fault(place, cause)) => {
-            PlanFault::Failed(place, Cause::Equation(cause))
-        }
     }
 }

@@ -16,7 +16,6 @@ use Rattle.job_record.specs.declared.fault.RecordFault.TheVariants.{NoRow, Store
 use Rattle.job_record.specs.declared.changes.Putting.{Putting}
 use Rattle.job_record.specs.declared.changes.Space.{Space}
 use Rattle.job_record.specs.declared.texts.Stored.{Stored}
-use Rattle.job_record.specs.Tables.{record_with}
 use Rattle.job_record.specs.Columns.{columns_of}
 use Rattle.job_record.specs.Texts.{texts_of}
 use Rattle.job_record.specs.Blame.{RunsOn, Blames}
@@ -208,7 +207,7 @@ Changes old new Given Told Why (Err fault) =
 
 -- what it may leave to a crash
 abbrev pub LeavesBy : {T : Type 0} → Answer T → KeyMap → Trees → Type 0
-LeavesBy {T} Told map trees = (value : T) × (next : KeyMap) × Told map value next × HoldsMap (record { schema = record_with next.beside.schema; trees = trees }) next
+LeavesBy {T} Told map trees = (value : T) × (next : KeyMap) × Told map value next × HoldsMap (record { schema = next.beside.schema; trees = trees }) next
 
 -- only an open connection commits, and then what is told of the map
 abbrev pub CrashesBy : {T : Type 0} → State → State → (KeyMap → Type 0) → Answer T → Type 0

@@ -13,7 +13,7 @@ use Rattle.job_record.specs.declared.fault.RecordFault.TheVariants.{NotARecord, 
 use Rattle.job_record.specs.declared.making.Tables.{Tables}
 use Rattle.job_record.specs.declared.making.Tables.TheVariants as tables
 use Rattle.job_record.specs.Statements.{version_text}
-use Rattle.job_record.specs.Opening.{HasTables, ReadsVersion, RefusesVersion, GoesBack, HasNoBytes, CannotMigrate, begun, make_texts, migrate_texts, RunsAll, RefusesOne, Makes, FailsToMake, Migrates, MigratesFrom, AddsAll}
+use Rattle.job_record.specs.Opening.{AreThere, ReadsVersion, RefusesVersion, GoesBack, HasNoBytes, CannotMigrate, begun, make_texts, migrate_texts, RunsAll, RefusesOne, Makes, FailsToMake, Migrates, MigratesFrom, AddsAll}
 use Rattle.job_record.specs.OpenMap.{OpensAs, RefusesAs}
 use Rattle.job_record.specs.Blame.{Blames}
 use Rattle.job_record.specs.inner.Inside.{GoesOn, GoesTo}
@@ -25,9 +25,9 @@ tables_of false false false = Ok tables.None
 tables_of _ _ _ = Err NotARecord
 
 abbrev pub HasThese : Schema → Tables → Type 0
-HasThese schema tables.None = HasTables schema false false false
-HasThese schema tables.First = HasTables schema true true false
-HasThese schema tables.All = HasTables schema true true true
+HasThese schema tables.None = AreThere schema false false false
+HasThese schema tables.First = AreThere schema true true false
+HasThese schema tables.All = AreThere schema true true true
 
 -- the version is read, and is this one or refused
 abbrev pub ReadsAs : Bool → State → State → ℕ → Result (Unit {0}) RecordFault → Type 0

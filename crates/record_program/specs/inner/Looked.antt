@@ -4,7 +4,7 @@ use Rattle.sqlite.specs.State.{State, HasCleanDisk, IsUnchanged}
 use Rattle.job_record.specs.Map.{IsRecord}
 use Rattle.job_record.specs.OpenMap.{IsBlank, IsFirst}
 
--- a record of either version, or a database with no table
+-- a record of either version, or a database in which there is room for one
 abbrev pub MayOpen : State → Type 0
 MayOpen s = IsBlank s ⊎ (IsFirst s ⊎ IsRecord s)
 

@@ -56,7 +56,7 @@ module _ (s : Scene) (f : Progress) (marks : List Mark) (course : Course) where
   ended_at result (working n job call phase r w) is = absurd cc
   ended_at result (collecting r may) phase = absurd cc
   ended_at result (delivering plan r may going) phase = absurd cc
-  ended_at result (ended end so noted) phase = record { end = end; so = so; noted = noted; is = let same : outcome_of end ≡ result = cc in same }
+  ended_at result (ended end so noted knows) phase = record { end = end; so = so; noted = noted; is = let same : outcome_of end ≡ result = cc in same }
 
   asks_no_more : {turn : Turn} → IsAt s f marks course turn → turn.asks ≡ Request.Finished → IsEnded turn.phase
   asks_no_more (measuring found m rest path is left happened none nothing) asks = absurd cc
@@ -71,7 +71,7 @@ module _ (s : Scene) (f : Progress) (marks : List Mark) (course : Course) where
   asks_no_more (working n job call phase r w) asks = absurd cc
   asks_no_more (collecting r may) asks = absurd cc
   asks_no_more (delivering plan r may going) asks = absurd cc
-  asks_no_more (ended end so noted) asks = tt
+  asks_no_more (ended end so noted knows) asks = tt
 
 whole_run : (law : ReportsRightly) (setting : Setting) (t : List Pair) (course : Course) (turn : Turn) (result : Result Outcome RunFault) → ids_differ setting.process ≡ true →
     Runs (scene_of setting) t course turn → turn.phase ≡ Phase.Ended result → Concludes setting t (reported (past_of course).plans (past_of course).notes result)

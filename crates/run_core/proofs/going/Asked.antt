@@ -149,7 +149,7 @@ module _ (s : Scene) (f : Progress) (marks : List Mark) (course : Course) where
   fits_at asks (working n job call phase r w) = lists_fit s f.events course (Some n) r
   fits_at asks (collecting r may) = lists_fit s f.events course None r
   fits_at asks (delivering plan r may going) = lists_fit s f.events course None r
-  fits_at asks (ended end so noted) = absurd (asks refl)
+  fits_at asks (ended end so noted knows) = absurd (asks refl)
 
   asks_at : {turn : Turn} → IsAt s f marks course turn → AsksIn course turn
   asks_at (measuring found m rest path is left happened none nothing) = tt
@@ -165,7 +165,7 @@ module _ (s : Scene) (f : Progress) (marks : List Mark) (course : Course) where
       work_asks s.options course job.place n (state_at course.jobs n).folder call phase w.calls.due w.calls.fits (taken_within course.jobs n (r.keeps.books.worked_on n refl))
   asks_at (collecting r may) = tt
   asks_at (delivering plan r may going) = tt
-  asks_at (ended end so noted) = tt
+  asks_at (ended end so noted knows) = tt
 
   module _ (r : Reflects s f.events course None) (may : MayCollect s f marks []) where
     flying_tickets : course.tickets.items ≢ []
@@ -197,7 +197,7 @@ module _ (s : Scene) (f : Progress) (marks : List Mark) (course : Course) where
       (λ same. subst IsForJob same (for_job s.options (state_at course.jobs n).folder [] call phase w.calls.due)) asks)
   collects_at place (collecting r may) asks = flying_tickets r may
   collects_at place (delivering plan r may going) asks = absurd (not_waiting (HostRequest.Deliver plan) place [] (λ same. cc) asks)
-  collects_at place (ended end so noted) asks = let never : Request.Finished ≡ Request.Host place HostRequest.Collect = asks in absurd cc
+  collects_at place (ended end so noted knows) asks = let never : Request.Finished ≡ Request.Host place HostRequest.Collect = asks in absurd cc
 
 module _ (s : Scene) (given : Given) (its : IsOf s given) (laws : Laws s) where
   allows_at : (t : List Pair) (f : Progress) (marks : List Mark) (course : Course) {turn : Turn} → turn.asks ≢ Request.Finished → IsAt s f marks course turn → Allowed s f marks turn.asks
@@ -219,7 +219,7 @@ module _ (s : Scene) (given : Given) (its : IsOf s given) (laws : Laws s) where
       working_allowed s f marks course n job call phase (staged_there s f.events course n job w.it r) w
   allows_at t f marks course asks (collecting r may) = may
   allows_at t f marks course asks (delivering plan r may going) = may
-  allows_at t f marks course asks (ended end so noted) = absurd (asks refl)
+  allows_at t f marks course asks (ended end so noted knows) = absurd (asks refl)
 
   first_call : (f : Progress) (marks : List Mark) (place : JobPlace) (call : HostRequest) → IsForJob call → IsLowest s f marks (Request.Host place call)
   first_call f marks place (HostRequest.Stage plan number) its = absurd its
@@ -298,7 +298,7 @@ module _ (s : Scene) (given : Given) (its : IsOf s given) (laws : Laws s) where
       first_call f plans.marks job.place call (for_job s.options (state_at course.jobs n).folder [] call phase w.calls.due)
   first_at t f plans goes course asks (collecting r may) = tt
   first_at t f plans goes course asks (delivering plan r may going) = tt
-  first_at t f plans goes course asks (ended end so noted) = absurd (asks refl)
+  first_at t f plans goes course asks (ended end so noted knows) = absurd (asks refl)
 
   -- what is asked may be asked
   pub allows : (t : List Pair) (course : Course) (turn : Turn) (runs : Runs s t course turn) → turn.asks ≢ Request.Finished → Allowed s runs.happened runs.plans.marks turn.asks

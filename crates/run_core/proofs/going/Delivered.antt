@@ -52,7 +52,7 @@ use Rattle.run_core.specs.inner.Keeps.{Reflects}
 use Rattle.run_core.specs.inner.Planning.{Replans}
 use Rattle.run_core.specs.inner.Standing.{IsAt, KeepsPlans, Runs, ended}
 use Rattle.run_core.specs.inner.Turn.{succeeds as succeeds_so}
-use Rattle.run_core.proofs.Plans.{replanned}
+use Rattle.run_core.proofs.Plans.{known_replanned, replanned}
 use Rattle.run_core.proofs.events.Reflecting.{Laws, collects_after, no_notes_more}
 use Rattle.run_core.proofs.going.Picking.{all_known, unsettled}
 use Rattle.run_core.proofs.going.Planning.{HasJob, IsPlanned, MayPlan, graph_same, job_of_number, none_away, not_refused, plan_by}
@@ -206,14 +206,14 @@ module _ (s : Scene) (given : Given) (same : given.options ≡ s.options) (rated
         subst (λ (fetched : JobPlace → Bool). IsPlan true s.options.outdir (sources (λ place. left_folder s.options.work (fetched place) (number_at (f.events ++ e ∷ []) place)) outputs) its_plan) same_fetches
         (subst (λ (number : JobPlace → ℕ). IsPlan true s.options.outdir (sources (λ place. left_folder s.options.work (is_fetched f.events place) (number place)) outputs) its_plan) same_numbers is)
 
-    ended_then : (new : Course) → (past_of new).notes ≡ (past_of old).notes → IsAt s later now.marks new (succeeds_so (located plan.value))
-    ended_then new same_notes =
+    ended_then : (new : Course) → (past_of new).notes ≡ (past_of old).notes → new.known ≡ old.known → IsAt s later now.marks new (succeeds_so (located plan.value))
+    ended_then new same_notes known =
         ended (succeeds_with may.outputs plan.value)
         (succeeds may.outputs plan.value busy_then (in_flight_after f.events (e ∷ []) ∙ may.landed)
         (ap (λ (u : Unfolded). u.result) same_known ∙ may.result)
         (copied plan (delivered_after f.events (e ∷ []))
         (same_folders may.outputs plan may.delivery)))
-        (same_notes ∙ r.notes ∙ sym (no_notes_more f.events e refl))
+        (same_notes ∙ r.notes ∙ sym (no_notes_more f.events e refl)) (λ still. ap known_in known ∙ whole_then)
 
   pub delivery_goes_on : (turn : Turn) (new : Course) → (turn ≡ succeeds_so (located plan.value)) × Replans given old new →
       Runs s (t ++ call [] (HostRequest.Deliver plan) HostAnswer.Done ∷ []) new turn
@@ -225,5 +225,5 @@ module _ (s : Scene) (given : Given) (same : given.options ≡ s.options) (rated
         goes = now.goes;
         planned = now.kept;
         at = subst (IsAt s later now.plans_now.marks new) (sym so.0)
-            (ended_then now.plans_now now.goes new (replanned (λ (p : Past). p.notes) (λ after made past. refl) given old so.1));
+            (ended_then now.plans_now now.goes new (replanned (λ (p : Past). p.notes) (λ after made past. refl) given old so.1) (known_replanned given old so.1));
       }

@@ -152,7 +152,7 @@ module _ (s : Scene) (given : Given) (same : given.options ≡ s.options) (rated
     answered (working n job call phase r w) (by_host place request answer can) follows = work_by n job phase can r w follows
     answered (collecting r may) (by_host place request answer can) follows = collect_by r may can follows
     answered (delivering plan r may going) (by_host place request answer can) follows = deliver_by plan r may going can follows
-    answered (ended end so noted) may follows = elim may [ ]
+    answered (ended end so noted knows) may follows = elim may [ ]
 
   pub goes_on_with : (t : List Pair) → given.answers ≡ length t + 1 → (old : Course) (before : Turn) (answer : Answer) (turn : Turn) (new : Course) → Runs s t old before → MayAnswer old.tickets.items before.asks answer →
       FollowsFrom given old before answer turn new → Runs s (t ++ record { request = before.asks; answer = answer } ∷ []) new turn

@@ -306,7 +306,8 @@ module _ (s : Scene) (given : Given) (same : given.options ≡ s.options) where
       ended_so told is none new same_notes =
           let so : IsSettled s f.events told = settled_so s f.events (settled s f.events) told refl (sym r.keeps.end ∙ is) in
           subst (λ (end : Result Outcome RunFault). IsAt s f plans.marks new (ends end)) so.tells
-          (ended so.end (fails so.end idle r.collects (none_in_flight s f.events course None r none) so.is) (same_notes ∙ r.notes))
+          (ended so.end (fails so.end idle r.collects (none_in_flight s f.events course None r none) so.is) (same_notes ∙ r.notes)
+          (λ still. let never : None ≡ Some so.end = sym still.unsettled ∙ so.is in absurd cc))
 
       module _ (going : course.end ≡ None) (looked : NoneToFind course) where
         abbrev books : Books
@@ -412,7 +413,7 @@ module _ (s : Scene) (given : Given) (same : given.options ≡ s.options) where
               subst (λ (outputs : Fields). IsAt s f plans.marks course (ends (Ok (Outcome.Success (located (last_by_name outputs)))))) (sym result.kept)
               (ended (succeeds_with result.outputs (last_by_name result.outputs))
               (succeeds result.outputs (last_by_name result.outputs) busy (none_in_flight s f.events course None r none) result.result
-              (no_file (ap any_file (sym result.kept) ∙ no_files) r.undelivered)) r.notes)
+              (no_file (ap any_file (sym result.kept) ∙ no_files) r.undelivered)) r.notes (λ still. whole_known))
 
           delivered_by : {turn : Turn} → Delivers given course turn → IsAt s f plans.marks course turn
           delivered_by (delivers turn files d) = delivered_files the_result files turn d

@@ -112,7 +112,7 @@ module _ (s : Scene) (f : Progress) (marks : List Mark) (old new : Course) (past
       putting n job row (reflects_same s f.events old new None past known r) (subst (λ (jobs : List Job). IsJob jobs n job) same_jobs it) due
   at_same (storing n job row r it due) =
       storing n job row (reflects_same s f.events old new None past known r) (subst (λ (jobs : List Job). IsJob jobs n job) same_jobs it) due
-  at_same (ended end so noted) = ended end so (ap (λ (p : Past). p.notes) past ∙ noted)
+  at_same (ended end so noted knows) = ended end so (ap (λ (p : Past). p.notes) past ∙ noted) (λ still. ap known_in known ∙ knows still)
 
 -- so with its run
 pub runs_same : (s : Scene) (t : List Pair) (old new : Course) (turn : Turn) → past_of new ≡ past_of old → new.known ≡ old.known → Runs s t old turn → Runs s t new turn

@@ -1,6 +1,6 @@
 -- A call has failed: one for a job or the delivery settles the end, and a collect ends the run.
 use Rattle.std.specs.Prelude.{◌||◌, Err, Result, is_some}
-use Rattle.std.proofs.Common.{◌≡◌, ◌∙◌, ℕ, List, [], ◌∷◌, ◌++◌, Option, Some, None, length, map, true, false, refl, sym, ap, subst}
+use Rattle.std.proofs.Common.{◌≡◌, ◌∙◌, ℕ, List, [], ◌∷◌, ◌++◌, Option, Some, None, length, map, true, false, refl, sym, ap, subst, true≢false}
 use Rattle.std.specs.List.{list_any}
 use Rattle.proc_host.specs.Answers.{fault_of}
 use Rattle.proc_host.specs.declared.call.HostAnswer.{HostAnswer}
@@ -90,5 +90,6 @@ module _ (s : Scene) (given : Given) (t : List Pair) (picks : PicksNext s given 
       planned = alike_planned plans (past_of old) (past_of new) alike planned;
       at = subst (IsAt s gone plans.marks new)
           (ap (λ (running : List ℕ). ends (Err (RunFault.Host HostFault.Collect running))) its_tickets ∙ sym is)
-          (ended (ended_by_host HostFault.Collect (tickets gone.events)) (lost refl is_lost) (alike.notes ∙ r.notes ∙ sym (no_notes_more f.events collect_failed refl)));
+          (ended (ended_by_host HostFault.Collect (tickets gone.events)) (lost refl is_lost) (alike.notes ∙ r.notes ∙ sym (no_notes_more f.events collect_failed refl))
+          (λ still. absurd (true≢false (sym is_lost ∙ still.collects))));
     }

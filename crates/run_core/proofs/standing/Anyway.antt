@@ -322,7 +322,7 @@ module _ (s : Scene) (least : EachHasLeast) (t : List Pair) (f : Progress) (plan
       goes_with _ nothing_due (result_delivered plan ∷ []) allowed (delivers [] plan)
   at_goes_on can (delivering plan reflects may going) fits (by_host place request answer (has_failed call)) allowed =
       fails_anyway [] (HostRequest.Deliver plan) refl allowed
-  at_goes_on can (ended end so noted) fits may allowed = elim may [ ]
+  at_goes_on can (ended end so noted knows) fits may allowed = elim may [ ]
 
 -- the transcript goes on by the answer
 pub goes_anyway : (s : Scene) (t : List Pair) (course : Course) (turn : Turn) (answer : Answer) → CanGoOn course (job_in turn.phase) answer → (r : Runs s t course turn) →

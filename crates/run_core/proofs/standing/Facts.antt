@@ -81,7 +81,7 @@ module _ (s : Scene) where
     looks_at (collecting reflects may) = tt
     looks_at (delivering plan reflects may going) =
         sym reflects.keeps.books.flights.their_tickets ∙ ap (λ (flying : List Flight). keys_of flying) may.landed
-    looks_at (ended end so noted) = tt
+    looks_at (ended end so noted knows) = tt
 
     knows_at : {marks : List Mark} {turn : Turn} → IsAt s f marks course turn → turn.asks ≢ Request.Finished → MayKnow course turn.phase
     knows_at (measuring found which rest path m is f_is none past) asks = tt
@@ -96,7 +96,7 @@ module _ (s : Scene) where
     knows_at (working number job call phase reflects w) asks = knows_by f.events course (Some number) reflects
     knows_at (collecting reflects may) asks = knows_by f.events course None reflects
     knows_at (delivering plan reflects may going) asks = knows_by f.events course None reflects
-    knows_at (ended end so noted) asks = absurd (asks refl)
+    knows_at (ended end so noted knows) asks = absurd (asks refl)
 
     apart_at : {marks : List Mark} {turn : Turn} → IsAt s f marks course turn → turn.asks ≢ Request.Finished → IsDistinct nat_eq course.tickets.items
     apart_at (measuring found which rest path m is f_is none past) asks =
@@ -112,7 +112,7 @@ module _ (s : Scene) where
     apart_at (working number job call phase reflects w) asks = apart_by f.events course (Some number) reflects
     apart_at (collecting reflects may) asks = apart_by f.events course None reflects
     apart_at (delivering plan reflects may going) asks = apart_by f.events course None reflects
-    apart_at (ended end so noted) asks = absurd (asks refl)
+    apart_at (ended end so noted knows) asks = absurd (asks refl)
 
     going_at : {marks : List Mark} {turn : Turn} → IsAt s f marks course turn → turn.phase ≡ Phase.Draining → ⊥
     going_at (measuring found which rest path m is f_is none past) drains = cc
@@ -127,7 +127,7 @@ module _ (s : Scene) where
     going_at (working number job call phase reflects w) drains = cc
     going_at (collecting reflects may) drains = cc
     going_at (delivering plan reflects may going) drains = cc
-    going_at (ended end so noted) drains = cc
+    going_at (ended end so noted knows) drains = cc
 
     stages_few : {marks : List Mark} {turn : Turn} → IsAt s f marks course turn → (number : ℕ) → turn.phase ≡ Phase.Staging number → length (known_in course.known) ≤ MOST_VERTICES
     stages_few (measuring found which rest path m is f_is none past) number at = absurd cc
@@ -143,7 +143,7 @@ module _ (s : Scene) where
     stages_few (working its_number job call phase reflects w) number at = absurd cc
     stages_few (collecting reflects may) number at = absurd cc
     stages_few (delivering plan reflects may going) number at = absurd cc
-    stages_few (ended end so noted) number at = absurd cc
+    stages_few (ended end so noted knows) number at = absurd cc
 
     fetches_untried : {marks : List Mark} {turn : Turn} → IsAt s f marks course turn → (number : ℕ) → turn.phase ≡ Phase.Fetching number → IsUntried course number
     fetches_untried (measuring found which rest path m is f_is none past) number at = absurd cc
@@ -164,7 +164,7 @@ module _ (s : Scene) where
     fetches_untried (working its_number job call phase reflects w) number at = absurd cc
     fetches_untried (collecting reflects may) number at = absurd cc
     fetches_untried (delivering plan reflects may going) number at = absurd cc
-    fetches_untried (ended end so noted) number at = absurd cc
+    fetches_untried (ended end so noted knows) number at = absurd cc
 
 module _ (s : Scene) (t : List Pair) (course : Course) (turn : Turn) (r : Runs s t course turn) where
   pub looks_at_some : LooksAtSome (past_of course) turn.phase

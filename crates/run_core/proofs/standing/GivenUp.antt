@@ -69,7 +69,7 @@ module _ (s : Scene) (f : Progress) (marks : List Mark) (course : Course) where
   asks_none_at (working n job call phase r w) outcome is = absurd cc
   asks_none_at (collecting r may) outcome phase = absurd cc
   asks_none_at (delivering plan r may going) outcome phase = absurd cc
-  asks_none_at (ended end so noted) outcome phase = refl
+  asks_none_at (ended end so noted knows) outcome phase = refl
 
 lost_asks_none : (past : Past) {turn : Turn} → IsLostAt past turn → (outcome : Result Outcome RunFault) → turn.phase ≡ Phase.Ended outcome → turn.asks ≡ Request.Finished
 lost_asks_none past (draining some) outcome phase = absurd cc

@@ -14,12 +14,12 @@ use Rattle.run_rules.specs.declared.request.Pair.{Pair}
 use Rattle.job_key.specs.Key.{key}
 use Rattle.run_rules.specs.declared.request.RecordRequest.{RecordRequest}
 use Rattle.run_rules.specs.declared.request.Request.{Request}
-use Rattle.run_rules.specs.Allowed.{MayFetch, MayFind, MayStage, MayCollect, MayDeliver}
+use Rattle.run_rules.specs.Allowed.{IsOpen, MayFetch, MayFind, MayStage, MayCollect, MayDeliver}
 use Rattle.run_rules.specs.Blame.{BlamesRightly, IsToBlame}
 use Rattle.run_rules.specs.Delivered.{located}
 use Rattle.run_rules.specs.End.{End}
 use Rattle.run_rules.specs.EndsSo.{EndsSo}
-use Rattle.run_rules.specs.Events.{Event, Progress, Started, is_reusable, nothing_due, started_at, put_due, store_due, folder_at, discard_due, drop_due, touch_due}
+use Rattle.run_rules.specs.Events.{Event, Progress, Started, is_reusable, nothing_due, started_at, put_due, store_due, folder_at, discard_due, drop_due, touch_due, unfolding_at}
 use Rattle.run_rules.specs.Plans.{InForce, PlansSoFar}
 use Rattle.run_rules.specs.Reports.{AreWaits, outcome_of, notes_of}
 use Rattle.run_rules.specs.Run.{Goes}
@@ -90,6 +90,10 @@ pub record FetchesNext (s : Scene) (f : Progress) (marks : List Mark) (course : 
   pub kept : s.options.keep ≡ true
   pub going : course.end ≡ None
 
+-- all jobs are known, unless work is due or the end is settled
+abbrev pub KnowsJobs : Scene → Progress → Course → Type 0
+KnowsJobs s f course = IsOpen s f → known_in course.known ≡ (unfolding_at s f.events).jobs
+
 -- what it waits for is what its run has come to: a rule for each phase
 pub data IsAt (s : Scene) (f : Progress) (marks : List Mark) (course : Course) : Turn → Type 0 where
   measuring : (found : List (Name × Measure)) (measuring : Measuring) (rest : List Name) (path : Name) → IsMeasuring s found measuring →
@@ -116,7 +120,7 @@ pub data IsAt (s : Scene) (f : Progress) (marks : List Mark) (course : Course) :
   collecting : Reflects s f.events course None → MayCollect s f marks [] → IsAt s f marks course collects
   delivering : (plan : StagePlan) → Reflects s f.events course None → MayDeliver s f marks [] plan → course.end ≡ None →
       IsAt s f marks course (waits (HostRequest.Deliver plan) (Phase.Delivering (located plan.value)))
-  ended : (end : End) → EndsSo s f marks end → (past_of course).notes ≡ notes_of f.events → IsAt s f marks course (ends (outcome_of end))
+  ended : (end : End) → EndsSo s f marks end → (past_of course).notes ≡ notes_of f.events → KnowsJobs s f course → IsAt s f marks course (ends (outcome_of end))
 
 -- what was planned is kept
 abbrev pub KeepsPlans : PlansSoFar → Past → Type 0

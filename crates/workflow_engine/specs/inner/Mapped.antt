@@ -3,7 +3,6 @@ use Rattle.std.specs.Prelude.{List, [], ◌∷◌, Result, Ok, Err, Contains}
 use Rattle.std.specs.List.{cons_option}
 use Rattle.std.specs.declared.alloc.AllocError.{AllocError}
 use Rattle.job_graph.specs.Words.{Fields, JobPlace}
-use Rattle.job_reuse.specs.Form.{AreInForm}
 use Rattle.job_rows.specs.Map.{RowMap, changed_by_all}
 use Rattle.job_rows.specs.Storable.{IsKept}
 use Rattle.job_rows.specs.declared.row.Row.{Row}

@@ -1,4 +1,4 @@
-use Rattle.std.proofs.Common.{rules, Ok, Err, Some, subst, inl, inr, refl}
+use Rattle.std.proofs.Common.{rules, Ok, Err, subst, inl, inr, refl}
 use Rattle.std.proofs.lemmas.Result.{err_from_is_err_and}
 use Rattle.sqlite.specs.Held.{state}
 use Rattle.job_record.specs.inner.Inside.{Always, Meets, Never, Walks, without_flag}

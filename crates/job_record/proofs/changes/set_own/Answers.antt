@@ -1,7 +1,6 @@
 use Rattle.std.proofs.Common.{◌≡◌, ◌++◌, ◌∷◌, [], Ok, Err, subst, inl, inr, refl}
 use Rattle.std.proofs.lemmas.Result.{err_from_is_err_and}
 use Rattle.sqlite.specs.Held.{state}
-use Rattle.job_rows.specs.Map.{without_archive}
 use Rattle.job_record.specs.inner.Inside.{Always, Never, Walks, CanAdd, with_row, with_archives}
 use Rattle.job_record.proofs.Chain.{walk_of, was_clean}
 use Rattle.job_record.proofs.Walked.{TellsBytes, TellsRemoved, set_gone_fails, set_add_fails, set_added}

@@ -1,4 +1,4 @@
-use Rattle.std.proofs.Common.{rules, Ok, Err, inl, inr, refl}
+use Rattle.std.proofs.Common.{rules, Ok, inl, inr, refl}
 use Rattle.std.proofs.lemmas.Result.{err_from_is_err_and}
 use Rattle.sqlite.specs.Held.{state}
 use Rattle.job_record.specs.inner.Inside.{Always, Never, CanRenumber}

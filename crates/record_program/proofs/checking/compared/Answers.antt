@@ -1,7 +1,6 @@
 use Rattle.std.proofs.Common.{inl}
 use Rattle.std.proofs.lemmas.Result.{IfOk-weaker, IfErr-weaker, err_from_is_err_and}
-use Rattle.record_program.specs.Checking.{stored, sums}
-use Rattle.record_program.proofs.AmongNames.{lacks_of, refuses_folders, refuses_sums}
+use Rattle.record_program.proofs.AmongNames.{is_unknown, is_missing, refuses_folders, refuses_sums}
 use Rattle.record_program.proofs.checking.compared.Goals as goal
 
 pub returns-in_err-folders-clause-err : goal.returns-in_err-folders-clause-err
@@ -16,11 +15,11 @@ returns-in_err-sums-clause-err c =
 
 pub returns-clause-unknown : goal.returns-clause-unknown
 returns-clause-unknown c =
-    IfOk-weaker c.differ.result _ _ (λ found is. lacks_of (sums c.args.archives.now) (stored c.args.names.now) found.unknown _ _ c.in_ok-sums.ensures.ok c.in_ok-folders.ensures.ok is) c.differ.ensures.unknown
+    IfOk-weaker c.differ.result _ _ (λ found is. is_unknown c.args.names.now c.args.archives.now found.unknown _ _ c.in_ok-folders.ensures.ok c.in_ok-sums.ensures.ok is) c.differ.ensures.unknown
 
 pub returns-clause-missing : goal.returns-clause-missing
 returns-clause-missing c =
-    IfOk-weaker c.differ.result _ _ (λ found is. lacks_of (stored c.args.names.now) (sums c.args.archives.now) found.missing _ _ c.in_ok-folders.ensures.ok c.in_ok-sums.ensures.ok is) c.differ.ensures.missing
+    IfOk-weaker c.differ.result _ _ (λ found is. is_missing c.args.names.now c.args.archives.now found.missing _ _ c.in_ok-folders.ensures.ok c.in_ok-sums.ensures.ok is) c.differ.ensures.missing
 
 pub returns-clause-err : goal.returns-clause-err
 returns-clause-err c = IfErr-weaker c.differ.result _ _ (λ fault is. inl is) c.differ.ensures.err

@@ -1,4 +1,4 @@
-use Rattle.std.proofs.Common.{sym, subst}
+use Rattle.std.proofs.Common.{subst}
 use Rattle.record_program.specs.Closing.{ClosesAs}
 use Rattle.record_program.proofs.ForGood.{for_good}
 use Rattle.record_program.proofs.closing.forgotten_for_good.Goals as goal

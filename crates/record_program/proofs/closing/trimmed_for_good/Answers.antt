@@ -1,4 +1,4 @@
-use Rattle.std.proofs.Common.{Some, None, sym, subst}
+use Rattle.std.proofs.Common.{None, sym, subst}
 use Rattle.record_program.specs.Closing.{ClosesAs, TrimsForGood}
 use Rattle.record_program.proofs.GoneForGood.{trims_for_good, trims_unclosed}
 use Rattle.record_program.proofs.closing.trimmed_for_good.Goals as goal

@@ -1,4 +1,4 @@
-use Rattle.std.proofs.Common.{sym, subst}
+use Rattle.std.proofs.Common.{subst}
 use Rattle.record_program.specs.Closing.{TrimsForGood}
 use Rattle.record_program.specs.Opened.{trims, untrimmed}
 use Rattle.record_program.proofs.Unshown.{is_ending}

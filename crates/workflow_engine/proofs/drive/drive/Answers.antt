@@ -30,13 +30,13 @@ loop-host-preserved g c =
     let going : c.loop-host.core.asks ≢ Request.Finished = search rules in
     let asked = sym c.next-in-loop-host.ensures.asked in
     let pairs : c.tell.new.core.transcript ≡ c.loop-host.core.transcript ++ pairs_by c.next-in-loop-host.result.now c.ask_next-told.result =
-    c.tell.ensures.pairs ∙ ap (λ (asks : Request). c.loop-host.core.transcript ++ pairs_by asks c.ask_next-told.result) asked in
+    c.tell.ensures.told.pairs ∙ ap (λ (asks : Request). c.loop-host.core.transcript ++ pairs_by asks c.ask_next-told.result) asked in
     let entries : entries_of c.tell.new.core.transcript ≡ entries_of c.loop-host.core.transcript ++ entries_by c.next-in-loop-host.result.now c.ask_next-told.result =
-    c.tell.ensures.entries ∙ ap (λ (asks : Request). entries_of c.loop-host.core.transcript ++ entries_by asks c.ask_next-told.result) asked in
+    c.tell.ensures.told.entries ∙ ap (λ (asks : Request). entries_of c.loop-host.core.transcript ++ entries_by asks c.ask_next-told.result) asked in
     let lines : lines_of c.tell.new.core.transcript ≡ lines_of c.loop-host.core.transcript ++ commands_by c.next-in-loop-host.result.now c.ask_next-told.result =
-    c.tell.ensures.lines ∙ ap (λ (asks : Request). lines_of c.loop-host.core.transcript ++ commands_by asks c.ask_next-told.result) asked in
+    c.tell.ensures.told.lines ∙ ap (λ (asks : Request). lines_of c.loop-host.core.transcript ++ commands_by asks c.ask_next-told.result) asked in
     record {
-      setting = c.tell.ensures.setting ∙ c.loop-host.invariant.setting;
+      setting = c.tell.ensures.told.setting ∙ c.loop-host.invariant.setting;
       logged = grown_on (g.H.Host.log c.args.host.now) (g.H.Host.log c.loop-host.host) _ (entries_of c.loop-host.core.transcript) _ _
           c.ask_next-told.ensures.logged c.loop-host.invariant.logged entries;
       recorded = grown_on (g.R.Record.log c.args.rows.now) (g.R.Record.log c.loop-host.rows) _ (lines_of c.loop-host.core.transcript) _ _
@@ -46,7 +46,7 @@ loop-host-preserved g c =
       answers = answers_on c.loop-host.core.transcript _ (g.H.Host.running c.loop-host.host) c.next-in-loop-host.result.now c.ask_next-told.result
           c.loop-host.invariant.answers c.ask_next-told.ensures.answers pairs;
       form = put_more AreInForm c.loop-host.core.transcript _ _ c.loop-host.invariant.form c.ask_next-told.ensures.form pairs;
-      flying = flies_on c.loop-host.core c.tell.new.core (g.H.Host.running c.loop-host.host) _ c.ask_next-told.result c.tell.ensures.flying
+      flying = flies_on c.loop-host.core c.tell.new.core (g.H.Host.running c.loop-host.host) _ c.ask_next-told.result c.tell.ensures.told.flying
           (c.loop-host.invariant.flying going) c.ask_next-told.ensures.running c.ask_next-told.ensures.kept;
       numbered = numbered_on (starts (g.H.Host.log c.args.host.now)) (entries_of c.loop-host.core.transcript) (entries_of c.tell.new.core.transcript)
           (g.H.Host.running c.loop-host.host) c.next-in-loop-host.result.now c.ask_next-told.result

@@ -10,8 +10,8 @@ pub take-requires : goal.take-requires
 take-requires c =
     answers (subst (λ (told : Result Answer AllocError). MayBeTold c.args.core.now told) c.in-Ok.is c.requires).answers
 
-pub returns-in-Ok : goal.returns-in-Ok
-returns-in-Ok c =
+pub returns-in-Ok-clause-told : goal.returns-in-Ok-clause-told
+returns-in-Ok-clause-told c =
     subst (λ (told : Result Answer AllocError). IsTold c.args.core.now told c.take.new.self) (sym c.in-Ok.is)
     (took_told c.args.core.now c.in-Ok.answer c.take.result c.take.new.self (c.take.ensures.took
     (subst (λ (told : Result Answer AllocError). MayBeTold c.args.core.now told) c.in-Ok.is c.requires).answers))

@@ -1,4 +1,0 @@
-use Rattle.engine_rows.proofs.alone.drive.Given as goal
-
-abbrev pub decreases-loop-alloc : goal.decreases-loop-alloc
-decreases-loop-alloc l = l.core.steps_left

@@ -1,4 +1,0 @@
-use Rattle.engine_rows.proofs.alone.drive_for.Given as goal
-
-abbrev pub decreases-loop-core : goal.decreases-loop-core
-decreases-loop-core l = l.core.steps_left

@@ -1,4 +1,0 @@
-use Rattle.engine_rows.proofs.generated.followed.Given as goal
-
-abbrev pub decreases-loop-keeps : goal.decreases-loop-keeps
-decreases-loop-keeps l = l.core.steps_left

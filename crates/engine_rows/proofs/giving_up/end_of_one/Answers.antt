@@ -1,4 +1,0 @@
-use Rattle.engine_rows.proofs.giving_up.end_of_one.Goals as goal
-
-pub returns-in-Collect : goal.returns-in-Collect
-returns-in-Collect c = rw c.in-Collect.is c.ended.ensures

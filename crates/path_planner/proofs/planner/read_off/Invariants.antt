@@ -1,5 +1,0 @@
-use Rattle.path_planner.specs.inner.Search.{AreMarked}
-use Rattle.path_planner.proofs.planner.read_off.Given as goal
-
-abbrev pub invariant-loop-job : goal.invariant-loop-job
-invariant-loop-job l = AreMarked l.search l.marks l.job

@@ -1,0 +1,2 @@
+mod OpenWithin
+mod OpenSteps

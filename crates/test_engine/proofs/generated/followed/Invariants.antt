@@ -1,0 +1,4 @@
+use Rattle.test_engine.proofs.generated.followed.Given as goal
+
+abbrev pub decreases-loop-keeps : goal.decreases-loop-keeps
+decreases-loop-keeps l = l.core.steps_left

@@ -1,0 +1,4 @@
+use Rattle.test_engine.proofs.giving_up.waits.Given as goal
+
+abbrev pub decreases-loop-core : goal.decreases-loop-core
+decreases-loop-core l = l.core.steps_left

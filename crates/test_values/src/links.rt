@@ -1,0 +1,73 @@
+use crate::values::{coded, value_in, written, written_last};
+use cwl_process::{Merge, Pick};
+use cwl_value::Value;
+use link_values::{LinkError, merge, pick};
+use serde_json::Value as Json;
+use std::alloc::Global;
+use test_rows::{Row, RowFault};
+
+/// `merge` makes one value of those of all links, and `pick` takes those that are not null. A method is the standard's
+/// name, or `none`.
+pub(crate) fn answer(alloc: Global, row: &Row) -> Result<String, RowFault> {
+    match row.call() {
+        "merge" => merged(alloc, row),
+        "pick" => picked(alloc, row),
+        _ => Err(RowFault::UnknownCall),
+    }
+}
+
+fn merged(alloc: Global, row: &Row) -> Result<String, RowFault> {
+    let method = merge_of(row.text("method")?)?;
+    let values = values_in(alloc, row.list("values")?)?;
+    written_last(alloc, merge(alloc, method, values)?)
+}
+
+fn merge_of(name: &str) -> Result<Option<Merge>, RowFault> {
+    match name {
+        "merge_nested" => Ok(Some(Merge::Nested)),
+        "merge_flattened" => Ok(Some(Merge::Flattened)),
+        "none" => Ok(None),
+        _ => Err(RowFault::BadArgument),
+    }
+}
+
+fn values_in(alloc: Global, list: &[Json]) -> Result<Vec<Value>, RowFault> {
+    let mut values = Vec::new(alloc);
+    for json in list {
+        values.push(value_in(alloc, json)?)?;
+    }
+    Ok(values)
+}
+
+fn picked(alloc: Global, row: &Row) -> Result<String, RowFault> {
+    let method = pick_of(row.text("method")?)?;
+    let value = value_in(alloc, row.json("value")?)?;
+    let found = pick(alloc, method, value);
+    let answer = picked_text(alloc, &found);
+    drop(found);
+    answer
+}
+
+fn picked_text(alloc: Global, found: &Result<Value, LinkError>) -> Result<String, RowFault> {
+    match found {
+        Ok(value) => written(alloc, value),
+        Err(error) => coded(alloc, code_of(error)),
+    }
+}
+
+fn pick_of(name: &str) -> Result<Option<Pick>, RowFault> {
+    match name {
+        "first_non_null" => Ok(Some(Pick::FirstNonNull)),
+        "the_only_non_null" => Ok(Some(Pick::TheOnlyNonNull)),
+        "all_non_null" => Ok(Some(Pick::AllNonNull)),
+        "none" => Ok(None),
+        _ => Err(RowFault::BadArgument),
+    }
+}
+
+fn code_of(error: &LinkError) -> &'static str {
+    match error {
+        LinkError::Refused(fault) => fault.code(),
+        LinkError::OutOfMemory => "memory",
+    }
+}

@@ -1,5 +1,0 @@
-use Rattle.std.proofs.Common.{◌≡◌, length}
-use Rattle.value_rows.proofs.scatters.put_each.Given as goal
-
-abbrev pub invariant-loop-json : goal.invariant-loop-json
-invariant-loop-json l = length l.gathering ≡ l.count
