@@ -2,7 +2,7 @@
 //!
 //! - `plan_lines` has the cost and a line for each job, with its mark and its place.
 //! - `plan_reasons` has a line for each job that says in words why it is loaded, computed or not needed.
-//! - `waiting_line` names the steps of which the plan does not know all jobs.
+//! - `waiting_line` names the steps of which the plan does not know all jobs; `push_earlier` says of one of these what earlier jobs of its tool took.
 //! - `plan_picture` is a graph in Graphviz's language: the jobs, what flows between them, and where the plan cuts.
 //!
 //! All are pure: how a job's place is written is up to the caller. The laws in `laws` say why the reasons are right.
@@ -22,4 +22,4 @@ pub use laws::{
 pub use lines::plan_lines;
 pub use picture::plan_picture;
 pub use reasons::{Known, plan_reasons};
-pub use waiting::waiting_line;
+pub use waiting::{first_named, push_earlier, waiting_line};

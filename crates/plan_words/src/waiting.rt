@@ -1,7 +1,7 @@
-//! The line on the steps of which a plan does not know all jobs.
+//! The lines on the steps of which a plan does not know all jobs.
 ghost use Rattle.std.specs.Prelude.{◌≡◌, ◌<◌, ◌≤◌, ◌++◌, length, IfOk, OnOk, string_bytes};
 ghost use Rattle.plan_words.specs.Lines.{texts_below};
-ghost use Rattle.plan_words.specs.Waiting.{count_words, end_words, few, line_of, name_words, separator, waiting_line};
+ghost use Rattle.plan_words.specs.Waiting.{average_words, count_words, earlier_line, end_words, few, first_named, jobs_words, line_of, mean_words, name_words, one_words, separator, step_words, took_words, waiting_line};
 
 use crate::parts::place_at;
 use plain_data::Text;
@@ -20,6 +20,70 @@ pub fn waiting_line(alloc: Global, names: &[Text]) -> Result<Text, AllocError>
         push_line(&mut text, names)?;
     }
     Ok(Text::from_string(text))
+}
+
+/// Those of the steps that are named.
+pub fn first_named(names: &[Text]) -> &[Text]
+    ensures { result.now ≡ first_named names.now }
+{
+    &names[..few(names.len())]
+}
+
+/// Says of a step that waits how many jobs of its tool there were, and how many milliseconds they took on average:
+/// `  sort: 3 earlier jobs of this tool took 1200 ms on average`.
+pub fn push_earlier(
+    text: &mut String,
+    name: &Text,
+    jobs: usize,
+    mean: u64,
+) -> Result<(), AllocError>
+    ensures { OnOk result (string_bytes text.new ≡ string_bytes text.old
+        ++ earlier_line name.now jobs mean) }
+{
+    push_step(text, name)?;
+    push_took(text, jobs, mean)
+}
+
+fn push_step(text: &mut String, name: &Text) -> Result<(), AllocError>
+    ensures { OnOk result (string_bytes text.new ≡ string_bytes text.old ++ step_words name.now) }
+{
+    write!(text, "  {name}: ")
+}
+
+fn push_took(text: &mut String, jobs: usize, mean: u64) -> Result<(), AllocError>
+    ensures { OnOk result (string_bytes text.new ≡ string_bytes text.old ++ took_words jobs mean) }
+{
+    if jobs == 1 {
+        push_one(text, mean)
+    } else {
+        push_average(text, jobs, mean)
+    }
+}
+
+fn push_one(text: &mut String, took: u64) -> Result<(), AllocError>
+    ensures { OnOk result (string_bytes text.new ≡ string_bytes text.old ++ one_words took) }
+{
+    write!(text, "1 earlier job of this tool took {took} ms\n")
+}
+
+fn push_average(text: &mut String, jobs: usize, mean: u64) -> Result<(), AllocError>
+    ensures { OnOk result (string_bytes text.new ≡ string_bytes text.old
+        ++ average_words jobs mean) }
+{
+    push_jobs(text, jobs)?;
+    push_mean(text, mean)
+}
+
+fn push_jobs(text: &mut String, jobs: usize) -> Result<(), AllocError>
+    ensures { OnOk result (string_bytes text.new ≡ string_bytes text.old ++ jobs_words jobs) }
+{
+    write!(text, "{jobs} earlier jobs of this tool took ")
+}
+
+fn push_mean(text: &mut String, mean: u64) -> Result<(), AllocError>
+    ensures { OnOk result (string_bytes text.new ≡ string_bytes text.old ++ mean_words mean) }
+{
+    write!(text, "{mean} ms on average\n")
 }
 
 fn push_line(text: &mut String, names: &[Text]) -> Result<(), AllocError>
