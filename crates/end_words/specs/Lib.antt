@@ -7,4 +7,5 @@ pub mod Status
 pub mod Stops
 pub mod Tally
 pub mod Told
+pub mod Unwritten
 pub mod Words

@@ -1,7 +1,9 @@
 //! How a run ends the program, and what it leaves.
-ghost use Rattle.std.specs.Prelude.{◌≡◌, None, IfOk};
+ghost use Rattle.std.specs.Prelude.{◌≡◌, ◌++◌, [], ◌∷◌, None, Some, IfOk, map, option_map, string_bytes};
 ghost use Rattle.program_words.specs.RunWords.{wish_of_run};
 ghost use Rattle.end_words.specs.Leaving as spec;
+ghost use Rattle.end_words.specs.Unwritten as unwritten;
+ghost use Rattle.end_words.specs.Told.{unkept_words};
 
 use crate::exit::{Exit, Fault};
 use crate::explaining::unkept_words;
@@ -66,11 +68,29 @@ impl RunEnd {
     pub fn unwritten(self, alloc: Global, file: &str) -> Result<RunEnd, AllocError>
         ensures exit { IfOk result (λ end. end.exit ≡ self.exit) }
         ensures left { IfOk result (λ end. end.left ≡ self.left) }
+        ensures unkept { IfOk result (λ end. end.unkept
+            ≡ unwritten.unkept_of self.exit file.now self.unkept) }
+        ensures notes { IfOk result (λ end. map string_bytes end.notes.items
+            ≡ unwritten.notes_of self.exit file.now (map string_bytes self.notes.items)) }
+        ensures savings { IfOk result (λ end. end.savings
+            ≡ unwritten.savings_of self.exit self.savings) }
     {
-        if !is_of_jobs(&self.exit) {
-            return Ok(self);
+        if is_of_jobs(&self.exit) {
+            return self.without_jobs(alloc, unwritten_words(alloc, file)?);
         }
-        let what = format!(in alloc; "the jobs of this run, since {file} may not be written")?;
+        Ok(self)
+    }
+
+    // Adds what of the jobs was not kept.
+    fn without_jobs(self, alloc: Global, what: String) -> Result<RunEnd, AllocError>
+        ensures exit { IfOk result (λ end. end.exit ≡ self.exit) }
+        ensures left { IfOk result (λ end. end.left ≡ self.left) }
+        ensures unkept { IfOk result (λ end. end.unkept ≡ Some (string_bytes what)) }
+        ensures notes { IfOk result (λ end. map string_bytes end.notes.items
+            ≡ map string_bytes self.notes.items ++ (unkept_words (string_bytes what) ∷ [])) }
+        ensures savings { IfOk result (λ end. end.savings
+            ≡ option_map unwritten.none_kept self.savings) }
+    {
         let RunEnd {
             exit,
             left,
@@ -83,21 +103,41 @@ impl RunEnd {
             exit,
             left,
             notes,
-            savings: savings.map(|it| Savings {
-                kept: Some(0),
-                ..it
-            }),
+            savings: none_kept(savings),
             unkept: Some(Text::from_string(what)),
         })
     }
 }
 
 // Whether the jobs of a run led to an end.
-fn is_of_jobs(exit: &Exit) -> bool {
+fn is_of_jobs(exit: &Exit) -> bool
+    ensures { result ≡ unwritten.is_of_jobs exit.now }
+{
     matches!(
         exit,
         Exit::Output(_) | Exit::Permanent(..) | Exit::Temporary(_)
     )
+}
+
+fn unwritten_words(alloc: Global, file: &str) -> Result<String, AllocError>
+    ensures { IfOk result (λ words. string_bytes words ≡ unwritten.unwritten_words file.now) }
+{
+    format!(in alloc; "the jobs of this run, since {file} may not be written")
+}
+
+// The same, of which none is kept.
+fn none_kept(savings: Option<Savings>) -> Option<Savings>
+    ensures { result ≡ option_map unwritten.none_kept savings }
+{
+    match savings {
+        None => None,
+        Some(savings) => {
+            Some(Savings {
+                kept: Some(0),
+                ..savings
+            })
+        }
+    }
 }
 
 fn left_of(

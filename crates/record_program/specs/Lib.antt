@@ -7,5 +7,6 @@ pub mod Endings
 pub mod Forgetting
 pub mod Trimming
 pub mod Closing
+pub mod Copying
 pub mod Opened
 pub mod inner

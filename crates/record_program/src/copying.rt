@@ -1,4 +1,6 @@
 //! A copy of the files of a database, for whoever can't hold the files themselves.
+ghost use Rattle.std.specs.Prelude.{◌≡◌};
+ghost use Rattle.record_program.specs.Copying as spec;
 
 use crate::head::LOG_HEADER;
 use crate::look::log_name;
@@ -40,7 +42,9 @@ impl CopiedFiles {
 }
 
 /// Whether a record could be looked at in a copy: another holds its file, or it may not be written.
-pub fn may_be_copied(fault: &RecordFault) -> bool {
+pub fn may_be_copied(fault: &RecordFault) -> bool
+    ensures { result ≡ spec.may_be_copied fault.now }
+{
     is_unwritable(fault)
         || matches!(
             fault,
@@ -49,7 +53,9 @@ pub fn may_be_copied(fault: &RecordFault) -> bool {
 }
 
 /// Whether the file of a record could not be opened to be read and written, or made.
-pub fn is_unwritable(fault: &RecordFault) -> bool {
+pub fn is_unwritable(fault: &RecordFault) -> bool
+    ensures { result ≡ spec.is_unwritable fault.now }
+{
     matches!(
         fault,
         RecordFault::Store(Error::SqliteFailure(ErrorCode::CannotOpen))
