@@ -1,3 +1,4 @@
 mod Names
 pub mod BestSoFar
+pub mod EarlierJobs
 pub mod KeyLemmas

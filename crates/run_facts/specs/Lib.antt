@@ -1,3 +1,4 @@
+pub mod EarlierJobs
 pub mod Entries
 pub mod Holding
 pub mod KeyTexts

@@ -31,3 +31,7 @@ process_at process (segment ∷ place) = option_and_then (λ inside. process_at 
 
 abbrev pub tool_at : Process → List Segment → Option Tool
 tool_at process place = option_and_then (λ inside. tool_in (out-Process inside)) (process_at process place)
+
+-- the tool of a step
+abbrev pub step_tool : Process → (id : List ℕ) → Option Tool
+step_tool process id = option_and_then (λ inside. tool_in (out-Process inside)) (inner process id)

@@ -35,6 +35,18 @@ pub fn parts_of(alloc: Global, key: &str) -> Result<Option<KeyParts>, AllocError
     }
 }
 
+/// Reads the fields of a tool as it was written, each as a JSON text, if it is an object.
+pub(crate) fn fields_of(alloc: Global, tool: &str) -> Result<Option<Keyed<Text>>, AllocError>
+    ensures some { IfOk result (λ found. IfSome found (spec.IsObjectOf (read tool.now))) }
+    ensures none { IfOk result (λ found. IfNone found (spec.IsNoObject (read tool.now))) }
+{
+    match Json::from_str(alloc, tool) {
+        Ok(json) => texts_of(alloc, &json),
+        Err(error) if error.is_memory() => Err(AllocError),
+        Err(_) => Ok(None),
+    }
+}
+
 fn parts_in(alloc: Global, key: &Json) -> Result<Option<KeyParts>, AllocError>
     ensures some { IfOk result (λ found. IfSome found (spec.ArePartsOf (view key.now))) }
     ensures none { IfOk result (λ found. IfNone found (spec.HasNoParts (view key.now))) }

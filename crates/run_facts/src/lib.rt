@@ -3,10 +3,11 @@
 //! All of it is pure: of a process whether its outputs can be files (`can_hold_files`), which input has no value that fits (`first_misfit`),
 //! and its tools (`tool_at`); of a host's log which call was answered how (`launch_with`, `end_of`, `listing_of`, `measure_of`); of a work
 //! folder that is there which run made it (`trouble_of`); of bytes that are no JSON what they look like (`look_of`); of a
-//! job's key its parts (`parts_of`), and how the job differs from the nearest of others (`nearest`). Types in words, and what
-//! references reach by types (`reach_of`), are in no contract.
+//! job's key its parts (`parts_of`), and how the job differs from the nearest of others (`nearest`); of a workflow's steps what earlier
+//! jobs of their tools took (`earlier_of`). Types in words, and what references reach by types (`reach_of`), are in no contract.
 #![tactic(auto)]
 
+mod earlier_jobs;
 mod holding;
 mod key_parts;
 mod looks;
@@ -19,6 +20,7 @@ mod repeats;
 mod tools;
 mod value_words;
 
+pub use earlier_jobs::{Earlier, earlier_of};
 pub use holding::can_hold_files;
 pub use key_parts::{KeyParts, parts_of};
 pub use looks::{Look, look_of, words_for};

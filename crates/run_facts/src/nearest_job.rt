@@ -164,7 +164,7 @@ fn count(own: &Keyed<Text>, other: &Keyed<Text>) -> usize
 }
 
 // Whether what is under a name is not what was under it.
-fn is_changed(entry: &(Text, Text), other: &Keyed<Text>) -> bool
+pub(crate) fn is_changed(entry: &(Text, Text), other: &Keyed<Text>) -> bool
     ensures { result ≡ spec.is_changed other.now entry.now }
 {
     match other.get(entry.0.as_str()) {
@@ -173,7 +173,7 @@ fn is_changed(entry: &(Text, Text), other: &Keyed<Text>) -> bool
     }
 }
 
-fn is_gone(entry: &(Text, Text), own: &Keyed<Text>) -> bool
+pub(crate) fn is_gone(entry: &(Text, Text), own: &Keyed<Text>) -> bool
     ensures { result ≡ spec.is_gone own.now entry.now }
 {
     !own.contains(entry.0.as_str())

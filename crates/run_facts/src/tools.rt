@@ -17,6 +17,16 @@ pub fn tool_at<'a>(process: &'a Process, place: &[Segment]) -> Option<&'a Tool>
     }
 }
 
+/// The tool of a step of a workflow, if the step is one.
+pub(crate) fn step_tool<'a>(process: &'a Process, step: &str) -> Option<&'a Tool>
+    ensures { option_copied result ≡ spec.step_tool process.now step.now }
+{
+    match inner(process, step) {
+        Some(Process::Tool(tool)) => Some(tool),
+        _ => None,
+    }
+}
+
 // The process at the end of these steps.
 fn process_at<'a>(process: &'a Process, place: &[Segment]) -> Option<&'a Process>
     ensures { option_copied result ≡ spec.process_at process.now place.now }
