@@ -6,3 +6,4 @@ pub mod Shown
 pub mod Stops
 pub mod Verdicts
 mod PlannedJobs
+pub mod WaitingLines

@@ -10,6 +10,7 @@ use Rattle.plan_words.specs.Lines.{plan_lines}
 use Rattle.plan_words.specs.Reasons.{reasons}
 use Rattle.plan_words.specs.declared.reasons.Known.{Known}
 use Rattle.proc_host.specs.declared.call.Entry.{Entry}
+use Rattle.run_facts.specs.EarlierJobs.{Past}
 use Rattle.run_rules.specs.PlannedFirst.{are_looks}
 use Rattle.run_rules.specs.Reports.{entries_of}
 use Rattle.run_rules.specs.declared.request.Pair.{Pair}
@@ -19,7 +20,7 @@ use Rattle.workflow_engine.specs.FirstPlan as first
 use Rattle.workflow_engine.specs.declared.planned.PlanFault.{PlanFault}
 use Rattle.workflow_engine.specs.declared.planned.Planned.{Planned}
 use Rattle.cwl_program.specs.Caches.{is_twofold, record_of}
-use Rattle.cwl_program.specs.Plans.{AreCounted, AreTextsOf, IsEndOfPlan, IsPlanTold, IsPlanned, lost, paper_of, planned, plans, stops, waiting_words}
+use Rattle.cwl_program.specs.Plans.{AreCounted, AreTextsOf, AreWaiting, IsEndOfPlan, IsPlanTold, IsPlanned, lost, paper_of, planned, plans, steps_waiting, stops}
 use Rattle.program_words.specs.RunWords.{RunWish}
 use Rattle.end_words.specs.RunEnds.{place_json}
 use Rattle.cwl_program.specs.Runs.{IsAsked, IsNamedProcess, IsNoInputs, IsNoProcess, IsReady, no_inputs, no_process, no_record, twofold}
@@ -86,37 +87,37 @@ counted_of setting looks (Ok made) told =
 counted_of setting looks (Err fault) told = tt
 
 -- a plan after these looks, with what was noted of it
-pub planned_so : (process : Process) (inputs : Fields) (options : Options) (dot : Bool) (before after : List Entry) (looks : List Pair)
+pub planned_so : (process : Process) (inputs : Fields) (options : Options) (past : Past) (dot : Bool) (before after : List Entry) (looks : List Pair)
     (made : Result Planned PlanFault) (told : Result Exit AllocError) (answer : Result RunEnd AllocError)
     → are_looks looks ≡ true → after ≡ before ++ entries_of looks
     → first.Tells (record { process = process; inputs = inputs; options = options }) looks made
-    → IfOk told (IsPlanTold process dot after made) → IfOk answer (λ end. told ≡ Ok end.exit)
+    → IfOk told (IsPlanTold process past dot after made) → IfOk answer (λ end. told ≡ Ok end.exit)
     → IfOk answer (λ end. IsPlanned process inputs options dot end.exit)
-planned_so process inputs options dot before after looks made told answer are logged tells is same =
+planned_so process inputs options past dot before after looks made told answer are logged tells is same =
     noted_as (IsPlanned process inputs options dot) told answer
-    (IfOk-weaker told _ _ (λ exit p. planned before after looks made are logged tells p) is) same
+    (IfOk-weaker told _ _ (λ exit p. planned past before after looks made are logged tells p) is) same
 
 -- the texts of a plan, where the places are written so
-pub are_texts : (process : Process) (dot : Bool) (made : Planned) (places : List Text) (known : List Known) (near : List Text) (waiting : Text)
+pub are_texts : (process : Process) (past : Past) (dot : Bool) (made : Planned) (places : List Text) (known : List Known) (near : List Text) (waiting : Text)
     (answer : Result PlanTexts AllocError)
     → places ≡ map place_json made.places → length known ≡ length made.graph → length near ≡ length made.graph
-    → waiting ≡ waiting_words process made.places known
+    → AreWaiting process past (steps_waiting process made.places known) waiting
     → IfOk answer (λ texts. texts.paper ≡ paper_of dot made places)
     → IfOk answer (λ texts. texts.lines ≡ plan_lines made.cost made.plan.marks places)
     → IfOk answer (λ texts. texts.reasons ≡ reasons made.graph made.plan.marks known near places ++ waiting)
-    → IfOk answer (AreTextsOf process dot made)
-are_texts process dot made places known near waiting (Err error) named each each_near waits paper lines why = tt
-are_texts process dot made places known near waiting (Ok texts) named each each_near waits paper lines why =
+    → IfOk answer (AreTextsOf process past dot made)
+are_texts process past dot made places known near waiting (Err error) named each each_near waits paper lines why = tt
+are_texts process past dot made places known near waiting (Ok texts) named each each_near waits paper lines why =
     record {
       known = known;
       each = each;
       near = near;
       each_near = each_near;
+      waiting = waiting;
+      are_waiting = waits;
       paper = subst (λ (p : List Text). texts.paper ≡ paper_of dot made p) named paper;
       lines = subst (λ (p : List Text). texts.lines ≡ plan_lines made.cost made.plan.marks p) named lines;
-      reasons =
-          subst (λ (p : List Text). texts.reasons ≡ reasons made.graph made.plan.marks known near p ++ waiting_words process made.places known) named
-          (subst (λ (w : Text). texts.reasons ≡ reasons made.graph made.plan.marks known near places ++ w) waits why);
+      reasons = subst (λ (p : List Text). texts.reasons ≡ reasons made.graph made.plan.marks known near p ++ waiting) named why;
     }
 
 -- an end that leaves nothing

@@ -20,33 +20,50 @@ pub fn is_kept<R: World>(rt: &R, file: &str) -> bool {
     }
 }
 
-/// The jobs that the record of a file has, if they are wanted. There are none if the record can't be listed: who opens it then says why, or
-/// makes one.
-pub fn kept_in<R: AllocGlobal + Records>(rt: &R, file: &str, are_wanted: bool) -> Items<KeyParts> {
-    if !are_wanted {
-        return Items::new(rt.alloc());
-    }
-    match rt.see_rows(file) {
-        Ok(listing) => parts_or_none(rt.alloc(), &listing),
-        Err(ending) => {
-            mem::drop(ending);
-            Items::new(rt.alloc())
+/// Jobs that a record has: the parts of their keys, and what each took.
+#[derive(Drop)]
+pub struct KeptJobs {
+    pub parts: Items<KeyParts>,
+    pub costs: Items<u64>,
+}
+
+impl KeptJobs {
+    pub fn none(alloc: Global) -> KeptJobs {
+        KeptJobs {
+            parts: Items::new(alloc),
+            costs: Items::new(alloc),
         }
     }
 }
 
-fn parts_or_none(alloc: Global, listing: &Listing) -> Items<KeyParts> {
-    match all_parts(alloc, listing) {
-        Ok(kept) => kept,
-        Err(_) => Items::new(alloc),
+/// The jobs that the record of a file has, if they are wanted. There are none if the record can't be listed: who opens it then says why, or
+/// makes one.
+pub fn kept_in<R: AllocGlobal + Records>(rt: &R, file: &str, are_wanted: bool) -> KeptJobs {
+    if !are_wanted {
+        return KeptJobs::none(rt.alloc());
+    }
+    match rt.see_rows(file) {
+        Ok(listing) => jobs_or_none(rt.alloc(), &listing),
+        Err(ending) => {
+            mem::drop(ending);
+            KeptJobs::none(rt.alloc())
+        }
     }
 }
 
-fn all_parts(alloc: Global, listing: &Listing) -> Result<Items<KeyParts>, AllocError> {
-    let mut kept = Items::new(alloc);
+fn jobs_or_none(alloc: Global, listing: &Listing) -> KeptJobs {
+    match all_jobs(alloc, listing) {
+        Ok(kept) => kept,
+        Err(_) => KeptJobs::none(alloc),
+    }
+}
+
+fn all_jobs(alloc: Global, listing: &Listing) -> Result<KeptJobs, AllocError> {
+    let mut kept = KeptJobs::none(alloc);
     for row in listing.rows.as_slice() {
         if let Some(parts) = parts_of(alloc, row.key.as_str())? {
-            kept.push(parts)?;
+            kept.parts.push(parts)?;
+            kept.costs.push(row.cost)?;
         }
     }
     Ok(kept)

@@ -10,7 +10,7 @@ ghost use Rattle.cwl_program.specs.Runs.{IsNamedProcess, IsReady};
 use crate::caches::{is_twofold, record_of};
 use crate::folders::options_of;
 use crate::looks::Looks;
-use crate::nearby::{is_kept, kept_in};
+use crate::nearby::{KeptJobs, is_kept, kept_in};
 use crate::on_machine::{machine_of, noted};
 use crate::plan_texts::exit_of_plan;
 use crate::run::{here_of, inputs_of, places_of, process_of, without_folder};
@@ -25,7 +25,6 @@ use process_machine::{Machine, World};
 use program_words::PlanWords;
 use record_program::Records;
 use run_core::Options;
-use run_facts::KeyParts;
 use std::alloc::AllocError;
 use std::mem;
 use std::process::Stdio;
@@ -176,7 +175,9 @@ where
     ensures left { IfOk result (λ end. end.left ≡ None) }
 {
     let mut rows = MemoryRecord::new(rt.alloc(), None);
-    let end = by_rows(rt, given, call, &[], &mut rows, dot);
+    let kept = KeptJobs::none(rt.alloc());
+    let end = by_rows(rt, given, call, &kept, &mut rows, dot);
+    mem::drop(kept);
     mem::drop(rows);
     end
 }
@@ -197,7 +198,7 @@ where
     ensures left { IfOk result (λ end. end.left ≡ None) }
 {
     let kept = kept_in(rt, file, call.words.explain);
-    let end = beside_kept(rt, given, call, file, kept.as_slice(), dot);
+    let end = beside_kept(rt, given, call, file, &kept, dot);
     mem::drop(kept);
     end
 }
@@ -207,7 +208,7 @@ fn beside_kept<R: World + Records>(
     given: &Given,
     call: &Call<'_>,
     file: &str,
-    kept: &[KeyParts],
+    kept: &KeptJobs,
     dot: bool,
 ) -> Result<RunEnd, AllocError>
 where
@@ -234,7 +235,7 @@ fn by_rows<R: World, K: Record>(
     rt: &R,
     given: &Given,
     call: &Call<'_>,
-    kept: &[KeyParts],
+    kept: &KeptJobs,
     rows: &mut K,
     dot: bool,
 ) -> Result<RunEnd, AllocError>
@@ -255,7 +256,7 @@ fn with_machine<R: World, K: Record>(
     given: &Given,
     options: Options,
     places: &Places,
-    kept: &[KeyParts],
+    kept: &KeptJobs,
     rows: &mut K,
     dot: bool,
 ) -> Result<RunEnd, AllocError>
@@ -282,7 +283,7 @@ fn planned<R: World, K: Record>(
     mut host: Machine<R>,
     given: &Given,
     options: Options,
-    kept: &[KeyParts],
+    kept: &KeptJobs,
     rows: &mut K,
     dot: bool,
 ) -> Result<RunEnd, AllocError>
@@ -294,7 +295,7 @@ where
         end.exit) }
     ensures left { IfOk result (λ end. end.left ≡ None) }
 {
-    let mut looks = Looks::new(rt.alloc(), kept, rows);
+    let mut looks = Looks::new(rt.alloc(), kept.parts.as_slice(), rows);
     let made = plan_only(
         rt.alloc(),
         &mut host,
@@ -310,6 +311,7 @@ where
         &given.process,
         made,
         looks.answers(),
+        kept,
         dot,
     );
     let traces = Traces::new(rt.alloc(), None);

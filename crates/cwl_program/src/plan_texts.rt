@@ -1,42 +1,47 @@
 //! What the program says of a plan.
-ghost use Rattle.std.specs.Prelude.{◌≡◌, ◌<◌, ◌++◌, [], length, map, slice_index_or, zip, IfOk};
+ghost use Rattle.std.specs.Prelude.{◌≡◌, ◌<◌, ◌++◌, [], flat_map, length, map, slice_index_or, zip, IfOk};
 ghost use Rattle.plan_checker.specs.Format.{certificate_text};
 ghost use Rattle.plan_words.specs.Lines.{plan_lines};
 ghost use Rattle.plan_words.specs.Reasons.{reasons};
-ghost use Rattle.cwl_program.specs.Plans.{AreCounted, AreTextsOf, IsPlanTold, is_open, paper_of as paper, plan_fault_exit, planned_job, waiting_words};
+ghost use Rattle.cwl_program.specs.Plans.{AreCounted, AreTextsOf, AreWaiting, IsPlanTold, earlier_words, is_open, paper_of as paper, plan_fault_exit, planned_job, steps_waiting};
 ghost use Rattle.end_words.specs.RunEnds.{place_json};
 ghost use Rattle.program_words.specs.Visible.{visible};
 
 use crate::looks::Look;
+use crate::nearby::KeptJobs;
 use cwl_value::{JobPlace, copy_job};
 use document_links::Process;
 use end_words::{Exit, PlanTexts, of_failure, of_fault, place_in};
 use plain_data::Text;
 use plan_checker::write_certificate;
 use plan_waits::{PlannedJob, waiting_steps};
-use plan_words::{Known, plan_lines, plan_picture, plan_reasons, waiting_line};
+use plan_words::{
+    Known, first_named, plan_lines, plan_picture, plan_reasons, push_earlier, waiting_line,
+};
 use proc_host::Entry;
 use program_words::visible_text;
-use run_facts::tool_at;
+use run_facts::{Earlier, earlier_of, tool_at};
 use std::alloc::{AllocError, Global};
 use std::mem;
 use workflow_engine::{PlanFault, Planned};
 
-/// Says how a plan of a process ends the program, over whose host this is the log; the record gave these answers.
+/// Says how a plan of a process ends the program, over whose host this is the log; the record had these jobs, and gave these answers.
 pub fn exit_of_plan(
     alloc: Global,
     log: &[Entry],
     process: &Process,
     made: Result<Planned, PlanFault>,
     answers: &[Look],
+    kept: &KeptJobs,
     dot: bool,
 ) -> Result<Exit, AllocError>
     requires { IfOk made AreCounted }
-    ensures { IfOk result (IsPlanTold process.now dot log.now made) }
+    ensures { IfOk result (IsPlanTold process.now (zip kept.now.parts kept.now.costs) dot log.now
+        made) }
 {
     match made {
         Ok(made) => {
-            let texts = texts_of(alloc, process, &made, answers, dot);
+            let texts = texts_of(alloc, process, &made, answers, kept, dot);
             mem::drop(made);
             Ok(Exit::Plan(texts?))
         }
@@ -62,15 +67,23 @@ fn texts_of(
     process: &Process,
     made: &Planned,
     answers: &[Look],
+    kept: &KeptJobs,
     dot: bool,
 ) -> Result<PlanTexts, AllocError>
     requires { AreCounted made.now }
-    ensures { IfOk result (AreTextsOf process.now dot made.now) }
+    ensures { IfOk result (AreTextsOf process.now (zip kept.now.parts kept.now.costs) dot
+        made.now) }
 {
     let places = shown(alloc, made.places.as_slice())?;
     let known = known_of(alloc, process, made.places.as_slice(), answers)?;
     let near = near_of(alloc, process, made.places.as_slice(), answers)?;
-    let waiting = waiting_of(alloc, process, made.places.as_slice(), known.as_slice())?;
+    let waiting = waiting_of(
+        alloc,
+        process,
+        made.places.as_slice(),
+        known.as_slice(),
+        kept,
+    )?;
     texts_with(
         alloc,
         made,
@@ -122,20 +135,53 @@ fn followed_by(first: Text, second: &Text) -> Result<Text, AllocError>
     Ok(Text::from_string(both))
 }
 
-// The line on the steps that wait for jobs at these places.
+// The lines on the steps that wait for jobs at these places, of a record that had these jobs.
 fn waiting_of(
     alloc: Global,
     process: &Process,
     places: &[JobPlace],
     known: &[Known],
+    kept: &KeptJobs,
 ) -> Result<Text, AllocError>
     requires { length known.now ≡ length places.now }
-    ensures { IfOk result (λ line. line ≡ waiting_words process.now places.now known.now) }
+    ensures { IfOk result (AreWaiting process.now (zip kept.now.parts kept.now.costs)
+        (steps_waiting process.now places.now known.now)) }
 {
     let jobs = jobs_at(alloc, places, known)?;
     let ids = waiting_steps(alloc, process, jobs.as_slice())?;
-    let names = visible_texts(alloc, ids.as_slice())?;
-    waiting_line(alloc, names.as_slice())
+    lines_on(alloc, process, ids.as_slice(), kept)
+}
+
+// Which steps these are, and what earlier jobs of their tools took.
+fn lines_on(
+    alloc: Global,
+    process: &Process,
+    ids: &[Text],
+    kept: &KeptJobs,
+) -> Result<Text, AllocError>
+    ensures { IfOk result (AreWaiting process.now (zip kept.now.parts kept.now.costs) ids.now) }
+{
+    let names = visible_texts(alloc, ids)?;
+    let line = waiting_line(alloc, names.as_slice())?;
+    let earlier = earlier_of(
+        alloc,
+        process,
+        first_named(ids),
+        kept.parts.as_slice(),
+        kept.costs.as_slice(),
+    )?;
+    with_earlier(alloc, line, earlier.as_slice())
+}
+
+fn with_earlier(alloc: Global, line: Text, earlier: &[Earlier]) -> Result<Text, AllocError>
+    ensures { IfOk result (λ text. text ≡ line ++ flat_map earlier_words earlier.now) }
+{
+    let mut text = line.into_string();
+    for own in earlier {
+        let name = visible_text(alloc, &own.step)?;
+        push_earlier(&mut text, &name, own.jobs, own.mean)?;
+    }
+    Ok(Text::from_string(text))
 }
 
 fn jobs_at(

@@ -91,7 +91,15 @@ where
     make_cache(rt, call.words);
     let tells = matches!(call.words.telling, Telling::Lines);
     let recorded = kept_in(rt, file, tells && is_kept(rt, file));
-    let end = beside_recorded(rt, given, places, call, file, recorded.as_slice(), err);
+    let end = beside_recorded(
+        rt,
+        given,
+        places,
+        call,
+        file,
+        recorded.parts.as_slice(),
+        err,
+    );
     mem::drop(recorded);
     end
 }

@@ -1,3 +1,4 @@
+use Rattle.std.specs.Prelude.{zip}
 use Rattle.run_rules.specs.declared.setting.Setting.{Setting}
 use Rattle.cwl_program.proofs.Plans.{counted_of, planned_so}
 use Rattle.cwl_program.proofs.plan.planned.Goals as goal
@@ -9,6 +10,6 @@ exit_of_plan-exit-requires g c =
 
 pub returns-clause-exit : goal.returns-clause-exit
 returns-clause-exit g c =
-    planned_so c.args.given.now.process c.args.given.now.inputs c.args.options c.args.dot _ _ c.plan_only-made.ensures.plans.transcript c.plan_only-made.result
+    planned_so c.args.given.now.process c.args.given.now.inputs c.args.options (zip c.args.kept.now.parts c.args.kept.now.costs) c.args.dot _ _ c.plan_only-made.ensures.plans.transcript c.plan_only-made.result
     c.exit_of_plan-exit.result _ c.plan_only-made.ensures.plans.looks c.plan_only-made.ensures.plans.logged c.plan_only-made.ensures.plans.told
     (rw c.log.ensures at c.exit_of_plan-exit.ensures) c.noted-end.ensures.exit
