@@ -2,7 +2,7 @@
 use Rattle.std.proofs.Common.{◌≡◌, ◌∙◌, inl, inr, List, [], ◌∷◌, ◌++◌, Bool, true, false, cond, Option, Some, None, refl, sym, ap, ap₂, subst}
 use Rattle.std.specs.Prelude.{◌&&◌, filter_map, is_some}
 use Rattle.std.specs.List.{AllByRecursion, list_all}
-use Rattle.workflow_check.specs.Sound.{IsIn}
+use Rattle.job_graph.specs.inner.Elements.{IsIn}
 use Rattle.job_graph.specs.Words.{JobPlace}
 use Rattle.job_graph.specs.Made.{fields_made}
 use Rattle.job_graph.specs.Jobs.{Job, Met, met_job, met_fault, is_well}
@@ -13,7 +13,7 @@ use Rattle.job_graph.specs.inner.Outputs.{are_learned}
 use Rattle.job_graph.proofs.laws_of_walks.Ended.{each_well, none_first}
 use Rattle.job_graph.proofs.laws_of_walks.Gives.{some_map}
 use Rattle.job_graph.proofs.laws_of_walks.Known.{Found, all_means, all_put, found_in, known_some, listed, met_known, same_place, still_known, well_in}
-use Rattle.job_graph.proofs.laws_of_walks.Learned.{IsIn as IsAmong}
+use Rattle.job_graph.specs.inner.Elements.{IsIn as IsAmong}
 use Rattle.job_graph.proofs.laws_of_walks.Part.{and_left, and_right}
 
 -- ---- known jobs grow the same

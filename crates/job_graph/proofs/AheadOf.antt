@@ -3,7 +3,7 @@ use Rattle.std.proofs.Common.{◌≡◌, ◌∙◌, ℕ, ◌-◌, List, [], ◌�
 use Rattle.std.proofs.Math.Seq.{take-append_seam}
 use Rattle.std.proofs.lemmas.List.{length_push, map-append}
 use Rattle.document_links.specs.declared.process.Process.{Process}
-use Rattle.workflow_check.specs.Sound.{IsIn}
+use Rattle.job_graph.specs.inner.Elements.{IsIn}
 use Rattle.job_graph.specs.declared.kept.Kept.{Kept}
 use Rattle.job_graph.specs.declared.made.Facts.{Facts}
 use Rattle.job_graph.specs.declared.made.Resolved.{Resolved as KeptResolved}
@@ -24,7 +24,8 @@ use Rattle.job_graph.proofs.OpenKept.{still_kept}
 use Rattle.job_graph.proofs.laws_of_walks.Beside.{HasAt}
 use Rattle.job_graph.proofs.laws_of_walks.Ended.{none_met}
 use Rattle.job_graph.proofs.laws_of_walks.Known.{in_order, known_met}
-use Rattle.job_graph.proofs.laws_of_walks.Learned.{IsIn as IsAmong, in_part, made_stays, walk_grows}
+use Rattle.job_graph.specs.inner.Elements.{IsIn as IsAmong}
+use Rattle.job_graph.proofs.laws_of_walks.Learned.{in_part, made_stays, walk_grows}
 use Rattle.job_graph.proofs.laws_of_walks.Open.{HasOpen, has_open, in_at, made_none, met_known, none_more}
 
 pub earlier_push : {X : Type 0} (xs : List X) (x : X) → earlier (xs ++ x ∷ []) ≡ xs

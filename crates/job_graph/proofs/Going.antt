@@ -7,7 +7,7 @@ use Rattle.std.proofs.lemmas.Slice.Eq.{bytes_eq-Decides}
 use Rattle.document_links.specs.declared.process.Step.{Step}
 use Rattle.plain_data.specs.ByName.{value_at, with_value}
 use Rattle.plain_data.proofs.Lookup.{value_at-with_value}
-use Rattle.workflow_check.specs.Sound.{IsIn}
+use Rattle.job_graph.specs.inner.Elements.{IsIn}
 use Rattle.job_graph.specs.Apart.{differ, step_ids_differ}
 use Rattle.job_graph.specs.Words.{Name, Fields, JobPlace}
 use Rattle.job_graph.specs.Jobs.{Made, Outs, Walk}
@@ -24,7 +24,7 @@ use Rattle.job_graph.proofs.laws_of_walks.GoesOn.{rounds_grow, step_alike, step_
 use Rattle.job_graph.proofs.laws_of_walks.Part.{stays_itself}
 use Rattle.job_graph.proofs.laws_of_walks.Places.{same_ids}
 use Rattle.job_graph.proofs.laws_of_walks.Settled.{count_keeps, each_of, grows_on, one_step, ready_stays, up_to, walk_stays}
-use Rattle.job_graph.proofs.laws_of_walks.Waits.{put_at}
+use Rattle.job_graph.proofs.laws_of_walks.PutOuts.{put_at}
 
 -- ---- what was known before one more place was learned
 

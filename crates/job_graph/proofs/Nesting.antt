@@ -13,7 +13,7 @@ use Rattle.document_links.specs.declared.process.Step.{Step, out-Step}
 use Rattle.document_links.specs.declared.process.Workflow.{Workflow, out-Workflow}
 use Rattle.input_files.specs.Measured.{Measures}
 use Rattle.plain_data.specs.ByName.{value_at}
-use Rattle.workflow_check.specs.Sound.{IsIn}
+use Rattle.job_graph.specs.inner.Elements.{IsIn}
 use Rattle.job_graph.specs.Apart.{differ, step_ids_differ}
 use Rattle.job_graph.specs.Words.{Name, Fields, JobPlace}
 use Rattle.job_graph.specs.Inputs.{workflow_inputs_for}
@@ -44,7 +44,7 @@ use Rattle.job_graph.proofs.laws_of_walks.Part.{and_left, and_right, neither_one
 use Rattle.job_graph.proofs.laws_of_walks.Places.{segment}
 use Rattle.job_graph.proofs.laws_of_walks.Settled.{each_of, is_element, one_step, walk_stays}
 use Rattle.job_graph.proofs.laws_of_walks.Steps.{entries_of, given_stays, outputs_settle}
-use Rattle.job_graph.proofs.laws_of_walks.Waits.{not_true}
+use Rattle.job_graph.proofs.laws_of_walks.PutOuts.{not_true}
 
 -- ---- processes that are workflows
 

@@ -10,7 +10,7 @@ use Rattle.document_links.specs.declared.process.Process.TheViews.{roll-out-Step
 use Rattle.document_links.specs.declared.process.Step.{Step, out-Step}
 use Rattle.plain_data.specs.ByName.{value_at}
 use Rattle.scatter_shape.specs.Gathered.{gathered}
-use Rattle.workflow_check.specs.Sound.{IsIn}
+use Rattle.job_graph.specs.inner.Elements.{IsIn}
 use Rattle.job_graph.specs.Apart.{ids_differ, step_ids_differ}
 use Rattle.job_graph.specs.Words.{Name, Fields, JobPlace}
 use Rattle.job_graph.specs.Jobs.{Met, Outs, Walk, all_there, with_first}

@@ -7,7 +7,7 @@ use Rattle.document_links.specs.declared.process.Process.TheOpen.{Process-F}
 use Rattle.document_links.specs.declared.process.Step.{Step}
 use Rattle.document_links.specs.declared.process.Workflow.{Workflow, out-Workflow}
 use Rattle.plain_data.specs.ByName.{map_values, value_at}
-use Rattle.workflow_check.specs.Sound.{IsIn}
+use Rattle.job_graph.specs.inner.Elements.{IsIn}
 use Rattle.job_graph.specs.Apart.{differ, ids_differ, step_ids_differ}
 use Rattle.job_graph.specs.Words.{Name, Fields, JobPlace}
 use Rattle.job_graph.specs.Jobs.{Job, Met, Outs, Walk}

@@ -6,7 +6,7 @@ use Rattle.std.proofs.Math.Seq.{take-append_seam}
 use Rattle.std.proofs.lemmas.List.{length_push, map-append}
 use Rattle.document_links.specs.declared.process.Process.{Process}
 use Rattle.input_files.specs.Measured.{Measures}
-use Rattle.workflow_check.specs.Sound.{IsIn}
+use Rattle.job_graph.specs.inner.Elements.{IsIn}
 use Rattle.job_graph.specs.declared.fault.UnfoldError.{UnfoldError}
 use Rattle.job_graph.specs.declared.growth.KnownJob.{KnownJob}
 use Rattle.job_graph.specs.declared.kept.Kept.{Kept}

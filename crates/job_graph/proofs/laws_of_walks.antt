@@ -14,11 +14,10 @@ pub mod Passed
 pub mod PassedWalks
 pub mod Places
 pub mod Processes
+pub mod PutOuts
 pub mod ReadDefaults
 pub mod Reads
 pub mod Rounds
 pub mod Same
 pub mod Settled
 pub mod Steps
-pub mod Waits
-pub mod Whole

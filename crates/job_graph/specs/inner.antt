@@ -1,3 +1,4 @@
+pub mod Elements
 pub mod Ended
 pub mod Entered
 pub mod Going

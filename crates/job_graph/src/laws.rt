@@ -1,5 +1,5 @@
 //! What follows from the definitions alone, for any process: each law is the contract of a function that does nothing.
-ghost use Rattle.std.specs.Prelude.{ℕ, ◌≡◌, ◌++◌, ◌∷◌, [], true, List, map, find, Ok, Some, None, is_some, IsSome, Contains};
+ghost use Rattle.std.specs.Prelude.{ℕ, ◌≡◌, ◌++◌, ◌∷◌, [], true, List, map, find, Ok, Some, None, is_some, Contains};
 ghost use Rattle.std.specs.List.{IsDistinct};
 ghost use Rattle.cwl_process.specs.declared.tool.Tool.{Tool};
 ghost use Rattle.cwl_value.specs.Erased.{fields_erased};
@@ -12,7 +12,6 @@ ghost use Rattle.document_links.specs.declared.process.Process.{Process};
 ghost use Rattle.file_values.specs.Resolved.{resolved};
 ghost use Rattle.input_files.specs.Measured.{Measures};
 ghost use Rattle.url.specs.Parts.{Parts};
-ghost use Rattle.workflow_check.specs.Checked.{fault_in};
 ghost use Rattle.job_graph.specs.declared.cause.Cause.{Cause};
 ghost use Rattle.job_graph.specs.Words.{Fields, JobPlace, is_same_place};
 ghost use Rattle.job_graph.specs.Jobs.{Job, Made, Walker, met_job, result_in};
@@ -148,17 +147,6 @@ pub fn results_learned_each_job()
         → (unfolded (walker process given measures) learned).result ≡ Some outputs
         → Contains (unfolded (walker process given measures) learned).jobs job
         → is_some (outputs_at learned job.place) ≡ true }
-{}
-
-/// Says that an accepted process has its result once each known job is resolved and no equation fails: no step waits for what
-/// never comes.
-pub fn accepted_processes_give_results()
-    ensures { (process : Process) (given : Fields) (measures : Measures) (learned : List Resolved)
-        → fault_in process ≡ None → ids_differ process ≡ true
-        → (unfolded (walker process given measures) learned).fault ≡ None
-        → ((job : Job) → Contains (unfolded (walker process given measures) learned).jobs job
-        → is_some (outputs_at learned job.place) ≡ true)
-        → IsSome (unfolded (walker process given measures) learned).result }
 {}
 
 /// Says that what made a File or Directory in the inputs of a known job was learned, where no job made what is given and

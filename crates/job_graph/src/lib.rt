@@ -51,10 +51,9 @@ pub use fault::{UnfoldError, UnfoldFault};
 pub use growth::KnownJob;
 pub use ids::see_ids;
 pub use laws::{
-    accepted_processes_give_results, failed_jobs_fail_eval, faults_fail_eval, faults_stay,
-    known_jobs_agree, known_jobs_are_met, known_jobs_stay, known_places_differ,
-    learned_results_stay, met_jobs_are_known, more_is_met, open_jobs_hold_back, results_are_eval,
-    results_learned_each_job, results_stay,
+    failed_jobs_fail_eval, faults_fail_eval, faults_stay, known_jobs_agree, known_jobs_are_met,
+    known_jobs_stay, known_places_differ, learned_results_stay, met_jobs_are_known, more_is_met,
+    open_jobs_hold_back, results_are_eval, results_learned_each_job, results_stay,
 };
 pub use paths::input_paths;
 pub use sought::Sought;

@@ -10,7 +10,7 @@ ghost use Rattle.job_graph.specs.inner.Levels.{steps_of, steps_walk};
 ghost use Rattle.job_graph.specs.inner.Rounds.{AllMeet, EnvGrows, Holds, IsSettled, is_stuck, walk_at};
 ghost use Rattle.job_graph.specs.inner.Views.{met_of};
 ghost use Rattle.plain_data.specs.ByName.{value_at};
-ghost use Rattle.workflow_check.specs.Sound.{IsIn};
+ghost use Rattle.job_graph.specs.inner.Elements.{IsIn};
 
 use crate::gather::push_met;
 use crate::links::{Env, sources_of};

@@ -4,7 +4,7 @@
 //! the first bytes of files, archives what jobs left, fetches what was archived, and delivers outputs.
 //! It meets every clause of `Host`, as its contracts say. A child gets exactly the words of its launch, behind
 //! those of a launcher, and its environment and its folder (`command_of`). What the calls do to files and processes no contract can say: the rows of
-//! `test_runs` show it.
+//! `test_hosts` show it.
 #![tactic(auto)]
 
 mod archive;

@@ -1,4 +1,3 @@
-pub mod Limits
 pub mod Core
 pub mod Machine
 pub mod Order

@@ -8,7 +8,7 @@ ghost use Rattle.run_rules.specs.Reports.{entries_of, reported, Concludes};
 ghost use Rattle.job_graph.specs.Words.{JobPlace};
 ghost use Rattle.run_core.specs.declared.state.Phase.{Phase};
 ghost use Rattle.run_core.specs.Core.{HasCounted, HasNotRunOut, HasPlans, Halts, IsAtRest, IsLost, MayAsk, MayTake, Begins, StaysLost, Took, GaveUp};
-ghost use Rattle.run_core.specs.Limits.{IsWithinLimits};
+ghost use Rattle.run_rules.specs.Limits.{IsWithinLimits};
 ghost use Rattle.run_core.specs.Machine.{plan_of};
 ghost use Rattle.run_core.specs.inner.Course.{past_of};
 ghost use Rattle.run_core.specs.inner.Follows.{AsksIn, AsksOf, HasPairs, IsReadyFor, MakesRoom, Moves, told_of};

@@ -43,3 +43,6 @@ pub mod ReuseChain
 pub mod MeasuredFile
 pub mod Rows
 pub mod events
+pub mod WaitingSteps
+pub mod WholeOutputs
+pub mod AcceptedResult

@@ -24,3 +24,4 @@ pub mod PlannedFirst
 pub mod Followed
 pub mod Answers
 pub mod Blame
+pub mod Limits

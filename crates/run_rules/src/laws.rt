@@ -1,6 +1,6 @@
 //! What follows from the definitions alone, for any run: each law is the contract of a function that
 //! does nothing, or only calls laws of `job_graph` and `job_reuse`.
-ghost use Rattle.std.specs.Prelude.{◌≡◌, ◌≢◌, ◌+◌, ◌≤◌, ◌↔◌, ℕ, true, List, [], ◌∷◌, ◌++◌, Ok, Some, Contains, is_some, length};
+ghost use Rattle.std.specs.Prelude.{◌≡◌, ◌≢◌, ◌+◌, ◌≤◌, ◌↔◌, ℕ, true, List, [], ◌∷◌, ◌++◌, Ok, Some, None, Contains, IsSome, is_some, length};
 ghost use Rattle.run_rules.specs.declared.request.Pair.{Pair};
 ghost use Rattle.run_rules.specs.declared.request.RecordAnswer.{RecordAnswer};
 ghost use Rattle.run_rules.specs.declared.request.RecordRequest.TheVariants.{Put};
@@ -27,6 +27,7 @@ ghost use Rattle.job_graph.specs.Made.{any_made};
 ghost use Rattle.job_graph.specs.LoadCosts.{IsLoadCost};
 ghost use Rattle.job_graph.specs.Unfold.{Resolved, outputs_at, too_many_jobs, unfolded};
 ghost use Rattle.job_graph.specs.Words.{Fields, JobPlace};
+ghost use Rattle.workflow_check.specs.Checked.{fault_in};
 ghost use Rattle.job_reuse.specs.Form.{AreInForm};
 ghost use Rattle.job_rows.specs.Storable.{IsKept};
 ghost use Rattle.job_rows.specs.declared.row.Row.{Row};
@@ -273,4 +274,15 @@ pub fn keys_are_those_of_the_jobs()
         → IsRunSoFar setting t f plans → AreAnswers t
         → Allowed (scene_of setting) f plans.marks request
         → IsUnderKey (scene_of setting) f.events request }
+{}
+
+/// Says that an accepted process has its result once each known job is resolved and no equation fails: no step waits for what
+/// never comes.
+pub fn accepted_processes_give_results()
+    ensures { (process : Process) (given : Fields) (measures : Measures) (learned : List Resolved)
+        → fault_in process ≡ None → ids_differ process ≡ true
+        → (unfolded (walker process given measures) learned).fault ≡ None
+        → ((job : Job) → Contains (unfolded (walker process given measures) learned).jobs job
+        → is_some (outputs_at learned job.place) ≡ true)
+        → IsSome (unfolded (walker process given measures) learned).result }
 {}

@@ -12,12 +12,13 @@ mod request;
 mod setting;
 
 pub use laws::{
-    a_lone_tool_is_within_limits, an_honest_run_ends_rightly, an_honest_run_is_reported_rightly,
-    delivered_files_are_at_hand, delivery_keeps_the_value, faults_came_of_answers,
-    keys_are_those_of_the_jobs, load_costs_are_rounded_up, looks_make_one_plan, makers_are_parents,
-    no_held_job_is_computed, no_place_is_fetched_twice, no_place_is_started_too_often,
-    nothing_follows_the_end, nothing_is_left_undone, nothing_read_was_made_before, one_end,
-    plans_followed_are_cheapest, rows_put_are_kept, success_has_each_job,
+    a_lone_tool_is_within_limits, accepted_processes_give_results, an_honest_run_ends_rightly,
+    an_honest_run_is_reported_rightly, delivered_files_are_at_hand, delivery_keeps_the_value,
+    faults_came_of_answers, keys_are_those_of_the_jobs, load_costs_are_rounded_up,
+    looks_make_one_plan, makers_are_parents, no_held_job_is_computed, no_place_is_fetched_twice,
+    no_place_is_started_too_often, nothing_follows_the_end, nothing_is_left_undone,
+    nothing_read_was_made_before, one_end, plans_followed_are_cheapest, rows_put_are_kept,
+    success_has_each_job,
 };
 pub use outcome::{Cause, CollectCause, Note, NoteKind, Outcome, PlanNote, Report, RunFault};
 pub use request::{Answer, Pair, RecordAnswer, RecordRequest, Request};

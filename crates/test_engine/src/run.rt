@@ -1,6 +1,6 @@
 //! What a row's run is of, and what it may use.
 ghost use Rattle.std.specs.Prelude.{◌≡◌, ◌≤◌, ◌^◌, [], IfOk};
-ghost use Rattle.run_core.specs.Limits.{IsWithinLimits};
+ghost use Rattle.run_rules.specs.Limits.{IsWithinLimits};
 
 use cwl_value::{Value, from_json};
 use document_links::{Docs, Document, Process, read_process};

@@ -1,6 +1,6 @@
 //! One run over real children and real files, where a call of the host may fail: how it ended, and what it left.
 ghost use Rattle.std.specs.Prelude.{◌≡◌, [], IfOk};
-ghost use Rattle.run_core.specs.Limits.{IsWithinLimits};
+ghost use Rattle.run_rules.specs.Limits.{IsWithinLimits};
 
 use crate::end::put_end;
 use crate::run::{Case, Paths, end_over, options_at};

@@ -3,7 +3,7 @@ ghost use Rattle.std.specs.Prelude.{◌≡◌, ◌++◌, [], None, IfErr, OnErr,
 ghost use Rattle.job_reuse.specs.Form.{AreInForm};
 ghost use Rattle.proc_host.specs.Log.{starts};
 ghost use Rattle.run_core.specs.Core.{IsLost};
-ghost use Rattle.run_core.specs.Limits.{IsWithinLimits};
+ghost use Rattle.run_rules.specs.Limits.{IsWithinLimits};
 ghost use Rattle.run_rules.specs.Answers.{AreAnswers};
 ghost use Rattle.run_rules.specs.Recorded.{lines_of};
 ghost use Rattle.run_rules.specs.Reports.{entries_of};

@@ -2,7 +2,7 @@
 ghost use Rattle.std.specs.Prelude.{◌≡◌, IfErr, IfOk, None, map, option_map};
 ghost use Rattle.job_graph.specs.Jobs.{Job as Known};
 ghost use Rattle.run_core.specs.Core.{jobs_of};
-ghost use Rattle.run_core.specs.Limits.{IsWithinLimits};
+ghost use Rattle.run_rules.specs.Limits.{IsWithinLimits};
 ghost use Rattle.workflow_check.specs.Checked.{fault_in};
 ghost use Rattle.workflow_engine.specs.Blame.{IsHostsPlanFault, PlanBlamesRecord};
 ghost use Rattle.workflow_engine.specs.FirstPlan.{PlansByMap, fault_told};

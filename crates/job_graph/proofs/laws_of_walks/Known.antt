@@ -23,7 +23,8 @@ use Rattle.job_graph.specs.More.{Stays}
 use Rattle.job_graph.specs.Unfold.{Resolved, is_at, outputs_at, job_met, is_known, with_job, with_met, met_after, jobs_after, made_by, unfolded}
 use Rattle.job_graph.proofs.laws_of_walks.Part.{AllIn, and_left, and_right, neither_one, neither_other}
 use Rattle.job_graph.proofs.laws_of_walks.Places.{Apart, walk_places}
-use Rattle.job_graph.proofs.laws_of_walks.Learned.{IsIn, walks_through, in_part, earlier_met, well_of, walk_grows, agrees_on}
+use Rattle.job_graph.specs.inner.Elements.{IsIn}
+use Rattle.job_graph.proofs.laws_of_walks.Learned.{walks_through, in_part, earlier_met, well_of, walk_grows, agrees_on}
 
 -- ---- places
 

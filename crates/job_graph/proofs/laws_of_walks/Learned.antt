@@ -10,6 +10,7 @@ use Rattle.cwl_value.specs.Erased.{fields_erased}
 use Rattle.cwl_process.specs.declared.tool.Tool.{Tool}
 use Rattle.document_links.specs.declared.process.Process.{Process}
 use Rattle.input_files.specs.Measured.{Measures}
+use Rattle.job_graph.specs.inner.Elements.{IsIn}
 use Rattle.job_graph.specs.declared.cause.Cause.{Cause}
 use Rattle.job_graph.specs.Words.{Fields, JobPlace, is_same_place}
 use Rattle.job_graph.specs.Made.{fields_made}
@@ -125,10 +126,6 @@ pub fault_stays : (walks : Walker) (learned later : List Resolved) (fault : Faul
 fault_stays walks learned later fault is = ap (fault_after walks) (reverse-append learned later) ∙ fault_by walks (reverse later) (reverse learned) fault is
 
 -- ---- faults are met
-
-abbrev pub IsIn : Met → List Met → Type 0
-IsIn m [] = ⊥
-IsIn m (x ∷ xs) = (m ≡ x) ⊎ IsIn m xs
 
 pub in_part : (m : Met) (xs ys : List Met) → IsPart xs ys → IsIn m xs → IsIn m ys
 in_part m xs ys nothing at = at

@@ -25,7 +25,7 @@ use Rattle.job_graph.specs.Unfold.{Known, Resolved, known_from, made_at, made_by
 use Rattle.job_graph.specs.Makers.{AreNamed, AreUnmade, HasUnmadeDefaults, IsLearned, IsLearnedJob, any_default, any_step_default, any_workflow_default, is_hit}
 use Rattle.job_graph.proofs.laws_of_walks.Processes.{WorkflowLevel, Cases, induction}
 use Rattle.job_graph.proofs.laws_of_walks.Part.{neither_one}
-use Rattle.job_graph.proofs.laws_of_walks.Learned.{IsIn}
+use Rattle.job_graph.specs.inner.Elements.{IsIn}
 use Rattle.job_graph.proofs.laws_of_walks.Known.{all_means, in_all, is_met, known_met, same_place}
 use Rattle.job_graph.proofs.laws_of_walks.Passed.{EachField, all_map, each_by_name, under}
 use Rattle.job_graph.proofs.laws_of_walks.PassedWalks.{Passed, defaults_are, tool_defaults, workflow_default, workflow_defaults, or_other, process_passes}

@@ -17,7 +17,8 @@ use Rattle.job_graph.specs.Jobs.{Job, Met, met_job, met_fault, Walk, Walker, all
 use Rattle.job_graph.specs.Unfold.{Resolved, Fault, too_many_jobs, jobs_after, fault_after, met_after, or_else, outputs_at, made_by, is_known, is_within_limits, with_met, first_fault, unfolded}
 use Rattle.job_graph.specs.Beside.{are_at_end, is_beside, is_open_beside, is_one_open}
 use Rattle.job_graph.proofs.laws_of_walks.Part.{and_left, and_right}
-use Rattle.job_graph.proofs.laws_of_walks.Learned.{IsIn, walks_through}
+use Rattle.job_graph.specs.inner.Elements.{IsIn}
+use Rattle.job_graph.proofs.laws_of_walks.Learned.{walks_through}
 use Rattle.job_graph.proofs.laws_of_walks.Known.{same_place, known_met, after_known, in_order, not_there}
 use Rattle.job_graph.proofs.laws_of_walks.Ended.{none_met}
 use Rattle.job_graph.proofs.laws_of_walks.Beside.{Beside, at_end, below, HasAt}

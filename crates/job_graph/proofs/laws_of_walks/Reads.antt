@@ -12,7 +12,7 @@ use Rattle.link_values.specs.Merged.{merged}
 use Rattle.link_values.specs.StepInputs.{step_input}
 use Rattle.plain_data.specs.ByName.{value_at, with_value}
 use Rattle.plain_data.proofs.Lookup.{value_at-with_value}
-use Rattle.workflow_check.specs.Sound.{IsIn}
+use Rattle.job_graph.specs.inner.Elements.{IsIn}
 use Rattle.job_graph.specs.declared.partly.Partly.{Partly}
 use Rattle.job_graph.specs.Words.{Name, Fields}
 use Rattle.job_graph.specs.Jobs.{Outs, with_first}

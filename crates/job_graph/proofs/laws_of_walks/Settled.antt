@@ -17,7 +17,7 @@ use Rattle.link_values.specs.Picked.{picked}
 use Rattle.link_values.specs.StepInputs.{step_input}
 use Rattle.plain_data.specs.ByName.{value_at, with_value, map_values}
 use Rattle.plain_data.proofs.Lookup.{value_at-with_value}
-use Rattle.workflow_check.specs.Sound.{IsIn}
+use Rattle.job_graph.specs.inner.Elements.{IsIn}
 use Rattle.job_graph.specs.declared.made.Facts.{Facts}
 use Rattle.job_graph.specs.declared.partly.Partly.{Partly}
 use Rattle.job_graph.specs.declared.partly.Partly.TheVariants.{Waits}
@@ -37,7 +37,7 @@ use Rattle.job_graph.proofs.laws_of_walks.Places.{same_ids}
 use Rattle.job_graph.proofs.laws_of_walks.Steps.{entries_of, faults_in, linked_stays, none_given, unknown_under}
 use Rattle.job_graph.proofs.laws_of_walks.Rounds.{round_rises}
 use Rattle.job_graph.proofs.laws_of_walks.Grown.{step_rises, steps_rise}
-use Rattle.job_graph.proofs.laws_of_walks.Waits.{not_true, put_at}
+use Rattle.job_graph.proofs.laws_of_walks.PutOuts.{not_true, put_at}
 
 -- ---- steps by their ids
 

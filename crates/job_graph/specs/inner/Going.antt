@@ -5,7 +5,7 @@ use Rattle.std.specs.Option.{option_map_or}
 use Rattle.cwl_process.specs.declared.links.Source.{Source}
 use Rattle.document_links.specs.declared.process.Step.{Step, out-Step}
 use Rattle.plain_data.specs.ByName.{value_at, with_value}
-use Rattle.workflow_check.specs.Sound.{IsIn}
+use Rattle.job_graph.specs.inner.Elements.{IsIn}
 use Rattle.job_graph.specs.Words.{Name, Fields, JobPlace}
 use Rattle.job_graph.specs.Jobs.{Met}
 use Rattle.job_graph.specs.Links.{Env}

@@ -1,6 +1,6 @@
 -- How the known jobs grow by what is met.
 use Rattle.std.specs.Prelude.{◌≡◌, ℕ, List, [], ◌∷◌, ◌++◌, None, Some, Result, Ok, Err, OnErr, OnOk, length, map, option_map, take, true}
-use Rattle.workflow_check.specs.Sound.{IsIn}
+use Rattle.job_graph.specs.inner.Elements.{IsIn}
 use Rattle.job_graph.specs.Jobs.{Job, Met, met_fault, met_job, Walk, Walker, result_in, those_named}
 use Rattle.job_graph.specs.KnownJobs.{jobs_in, known_of}
 use Rattle.job_graph.specs.Unfold.{Resolved, entries_from, first_fault, is_known, known_from, or_else, unfolded, with_met}

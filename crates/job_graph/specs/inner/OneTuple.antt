@@ -3,7 +3,7 @@ use Rattle.std.specs.Prelude.{◌≡◌, ◌⊎◌, ◌||◌, ◌+◌, ℕ, zero
 use Rattle.std.specs.List.{flat_map, list_all}
 use Rattle.std.specs.Map.{keys_of}
 use Rattle.document_links.specs.declared.process.Step.{Step, out-Step}
-use Rattle.workflow_check.specs.Sound.{IsIn}
+use Rattle.job_graph.specs.inner.Elements.{IsIn}
 use Rattle.job_graph.specs.Apart.{differ}
 use Rattle.job_graph.specs.Words.{Name, Fields, JobPlace}
 use Rattle.job_graph.specs.Jobs.{Met, Outs, Walk}

@@ -4,7 +4,7 @@ use Rattle.std.specs.List.{list_all}
 use Rattle.cwl_process.specs.declared.links.Source.{Source}
 use Rattle.document_links.specs.declared.process.Step.{Step, out-Step}
 use Rattle.plain_data.specs.ByName.{value_at}
-use Rattle.workflow_check.specs.Sound.{IsIn}
+use Rattle.job_graph.specs.inner.Elements.{IsIn}
 use Rattle.job_graph.specs.Words.{Name, Fields, JobPlace}
 use Rattle.job_graph.specs.Jobs.{Outs, Walk}
 use Rattle.job_graph.specs.Links.{Env, out_under}

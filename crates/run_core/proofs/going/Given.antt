@@ -6,7 +6,7 @@ use Rattle.input_files.specs.Paths.{paths_of_fields}
 use Rattle.workflow_check.specs.Checked.{fault_in}
 use Rattle.job_graph.specs.Apart.{ids_differ}
 use Rattle.job_graph.specs.Paths.{root_adds}
-use Rattle.job_graph.proofs.laws_of_walks.Ended.{has_result}
+use Rattle.run_rules.proofs.AcceptedResult.{has_result}
 use Rattle.job_graph.proofs.laws_of_walks.Known.{known_distinct}
 use Rattle.run_rules.specs.declared.request.Answer.{Answer}
 use Rattle.run_rules.specs.declared.request.Pair.{Pair}

@@ -13,7 +13,7 @@ use Rattle.run_rules.proofs.Rising.{none_started}
 use Rattle.run_rules.proofs.TranscriptTells.{none_in}
 use Rattle.run_core.specs.Core.{Begins}
 use Rattle.run_core.specs.inner.Inside.{rates_of, Stands, on_run, seen, setting_in}
-use Rattle.run_core.specs.Limits.{IsWithinLimits}
+use Rattle.run_rules.specs.Limits.{IsWithinLimits}
 use Rattle.run_core.specs.declared.runner.RunCore.TheInside.{Inside}
 use Rattle.run_core.specs.declared.state.Course.{Course}
 use Rattle.run_core.specs.declared.state.Phase.{Phase}

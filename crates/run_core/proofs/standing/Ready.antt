@@ -11,7 +11,7 @@ use Rattle.run_rules.specs.declared.request.Answer.{Answer}
 use Rattle.run_rules.specs.declared.request.Pair.{Pair}
 use Rattle.run_rules.specs.declared.setting.Options.{Options}
 use Rattle.run_core.specs.inner.Inside.{rates_of, Stands, setting_in}
-use Rattle.run_core.specs.Limits.{IsWithinLimits}
+use Rattle.run_rules.specs.Limits.{IsWithinLimits}
 use Rattle.run_core.specs.declared.runner.RunCore.TheInside.{Inside}
 use Rattle.run_core.specs.declared.state.Course.{Course}
 use Rattle.run_core.specs.declared.state.Given.{Given}

@@ -13,7 +13,7 @@ use Rattle.workflow_check.specs.Checked.{fault_in}
 use Rattle.run_core.specs.declared.runner.RunCore.TheInside.{Inside}
 use Rattle.run_core.specs.declared.state.Given.{Given}
 use Rattle.run_core.specs.declared.state.Phase.{Phase}
-use Rattle.run_core.specs.Limits.{IsWithinLimits}
+use Rattle.run_rules.specs.Limits.{IsWithinLimits}
 use Rattle.run_core.specs.Machine.{Machine, Mode, is_draining, is_going, is_over}
 use Rattle.run_core.specs.inner.Attempts.{StaysBounded, answers_left}
 use Rattle.run_core.specs.inner.Course.{past_of}

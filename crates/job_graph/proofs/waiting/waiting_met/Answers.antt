@@ -1,7 +1,7 @@
 use Rattle.std.proofs.Common.{◌≡◌, ◌∙◌, List, map, not, subst, sym, true}
 use Rattle.std.specs.Prelude.{◌||◌, is_some}
 use Rattle.plain_data.specs.ByName.{value_at}
-use Rattle.workflow_check.specs.Sound.{IsIn}
+use Rattle.job_graph.specs.inner.Elements.{IsIn}
 use Rattle.job_graph.specs.Jobs.{Met}
 use Rattle.job_graph.specs.declared.walk.Met.{Met as KeptMet}
 use Rattle.job_graph.specs.inner.Going.{LeavesOut, reads_one}

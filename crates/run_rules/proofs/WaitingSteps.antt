@@ -1,8 +1,7 @@
 -- No step waits for ever: round by round, each step gives its outputs once those that its sources name do.
-use Rattle.std.proofs.Common.{◌≡◌, ◌∙◌, inl, inr, ℕ, zero, suc, ◌+◌, List, [], ◌∷◌, map, length, Bool, true, false, cond, not, Option, Some, None, Result, Ok, Err, unwrap_or, bytes_eq, refl, sym, ap, ap₂, subst, arith}
+use Rattle.std.proofs.Common.{◌≡◌, ◌∙◌, inl, inr, ℕ, zero, suc, ◌+◌, List, [], ◌∷◌, map, length, Bool, true, false, cond, Option, Some, None, Result, Ok, Err, unwrap_or, bytes_eq, refl, sym, ap, ap₂, subst, arith}
 use Rattle.std.specs.Prelude.{◌&&◌, ◌||◌, is_some}
 use Rattle.std.specs.List.{AllByRecursion, filter, flat_map, list_all, list_any}
-use Rattle.std.specs.Map.{keys_of}
 use Rattle.std.proofs.lemmas.Slice.Eq.{bytes_eq-Decides}
 use Rattle.cwl_value.specs.declared.value.Value.{Value}
 use Rattle.cwl_process.specs.declared.links.Links.{Links}
@@ -11,16 +10,13 @@ use Rattle.cwl_process.specs.declared.workflow.StepInput.{StepInput}
 use Rattle.cwl_process.specs.declared.workflow.WorkflowOutput.{WorkflowOutput}
 use Rattle.document_links.specs.declared.process.Step.{Step, out-Step}
 use Rattle.input_files.specs.Measured.{Measures}
-use Rattle.plain_data.specs.ByName.{value_at, with_value, map_values}
-use Rattle.plain_data.proofs.Lookup.{name_itself, value_at-with_value}
+use Rattle.plain_data.specs.ByName.{value_at, map_values}
 use Rattle.workflow_check.specs.Order.{is_of, leads_to, some_lead, waits_on, waits_for, still_waiting, left_after, is_some_left, is_cyclic}
 use Rattle.workflow_check.specs.Scope.{lists, in_step, is_at}
-use Rattle.workflow_check.specs.Sound.{AreThere, Each, IsIn, IsSound, IsSoundStep}
+use Rattle.workflow_check.specs.Sound.{AreThere, Each, IsSound, IsSoundStep}
 use Rattle.job_graph.specs.declared.cause.Cause.{Cause}
-use Rattle.job_graph.specs.declared.partly.Partly.{Partly}
-use Rattle.job_graph.specs.declared.partly.Partly.TheVariants.{Waits, Gives, Fails}
 use Rattle.job_graph.specs.Apart.{differ}
-use Rattle.job_graph.specs.Words.{Name, Fields, JobPlace, put_from}
+use Rattle.job_graph.specs.Words.{Name, Fields, JobPlace}
 use Rattle.job_graph.specs.Jobs.{Job, Met, Made, Outs, is_well}
 use Rattle.job_graph.specs.Links.{Env, out_under, value_from, source_value, linked_values, partly, once_known, output_from, output_value, given}
 use Rattle.job_graph.specs.Equations.{StepMeaning, fault_at, step_walk, env_after, workflow_at}
@@ -32,6 +28,8 @@ use Rattle.job_graph.proofs.laws_of_walks.Places.{IsAmong, ids_of}
 use Rattle.job_graph.proofs.laws_of_walks.Steps.{entries_of}
 use Rattle.job_graph.proofs.laws_of_walks.Rounds.{StepRises, round_rises, met_rises, length_values}
 use Rattle.job_graph.proofs.laws_of_walks.Gives.{Settled, AllSettled, AreGiven, AllWell, first_some, well_left, well_right}
+use Rattle.job_graph.specs.inner.Elements.{IsIn}
+use Rattle.job_graph.proofs.laws_of_walks.PutOuts.{put_at}
 
 -- ---- elements of lists
 
@@ -50,10 +48,6 @@ passes : {X : Type 0} (p : X → Bool) (x : X) (xs : List X) → p x ≡ true �
 passes p x [] is at = at
 passes p x (y ∷ ys) is (inl here) = subst (λ (b : Bool). IsIn x (cond b (y ∷ filter p ys) (filter p ys))) (sym (ap p (sym here) ∙ is)) (inl here)
 passes p x (y ∷ ys) is (inr later) = elim (p y) as (λ b. IsIn x (cond b (y ∷ filter p ys) (filter p ys))) [ true ↦ inr (passes p x ys is later) | false ↦ passes p x ys is later ]
-
-pub not_true : (b : Bool) → not b ≡ true → b ≡ false
-not_true true is = absurd cc
-not_true false is = refl
 
 listed : (name : Name) (names : List Name) → lists names name ≡ true → IsAmong name names
 listed name [] is = absurd cc
@@ -95,15 +89,6 @@ well_part made xs ys (kept x us vs part) well =
     ap₂ (λ (a b : Bool). a && b) (and_left (is_well made x) (list_all (is_well made) vs) well) (well_part made us vs part (and_right (is_well made x) (list_all (is_well made) vs) well))
 well_part made xs ys (left_out y us vs part) well = well_part made xs vs part (and_right (is_well made y) (list_all (is_well made) vs) well)
 
--- ---- what is put under other ids changes nothing
-
-put_past : (id : Name) (now : Env) (entries : List (Name × Outs)) → list_any (bytes_eq id) (keys_of entries) ≡ false → value_at id (put_from now entries) ≡ value_at id now
-put_past id now [] other = refl
-put_past id now (x ∷ xs) other =
-    put_past id (with_value x.0 x.1 now) xs (neither_other (bytes_eq id x.0) (list_any (bytes_eq id) (keys_of xs)) other)
-    ∙ value_at-with_value id x.0 x.1 now
-    ∙ ap (λ (b : Bool). cond b (Some x.1) (value_at id now)) (neither_one (bytes_eq id x.0) (list_any (bytes_eq id) (keys_of xs)) other)
-
 -- ---- values that are known or fail
 
 partly_settled : (found : Result Value Cause) → Settled (partly found)
@@ -114,10 +99,19 @@ once_settled : (f : List Value → Result Value Cause) (o : Option (List Value))
 once_settled f None some = absurd cc
 once_settled f (Some values) some = partly_settled (f values)
 
-given_some : (made : Made) (place : JobPlace) (p : Partly) → Settled p → AllWell made (fault_at place p) → is_some (given p) ≡ true
-given_some made place Waits settled well = absurd settled
-given_some made place (Gives value) settled well = refl
-given_some made place (Fails cause) settled well = absurd cc
+-- what is known, where nothing that is met fails, has a value
+once_given : (made : Made) (place : JobPlace) (f : List Value → Result Value Cause) (o : Option (List Value)) → Settled (once_known f o) → AllWell made (fault_at place (once_known f o)) → is_some (given (once_known f o)) ≡ true
+once_given made place f None settled well = absurd settled
+once_given made place f (Some values) settled well = by (f values) well
+  where
+    by : (r : Result Value Cause) → AllWell made (fault_at place (partly r)) → is_some (given (partly r)) ≡ true
+    by (Ok value) well = refl
+    by (Err cause) well = absurd cc
+
+output_given : (made : Made) (place : JobPlace) (inputs : Fields) (env : Env) (links : Links) (sources : Option (List Source)) → Settled (output_from inputs env links sources)
+    → AllWell made (fault_at place (output_from inputs env links sources)) → is_some (given (output_from inputs env links sources)) ≡ true
+output_given made place inputs env links None settled well = refl
+output_given made place inputs env links (Some sources) settled well = once_given made place _ (linked_values inputs env sources) settled well
 
 none_lead : (sources : List Source) → list_any (λ source. leads_to [] source.step) sources ≡ false
 none_lead [] = refl
@@ -199,27 +193,9 @@ module _ (made : Made) (measures : Measures) (F : Step → StepMeaning) (workflo
   outputs_given env ready (o ∷ os) there well =
       let faults : List Met = fault_at place (output_value inputs env o.1.links) in
       let later : List Met = flat_map (λ o. fault_at place (output_value inputs env o.1.links)) os in (
-        given_some made place (output_value inputs env o.1.links) (output_settles env [] ready o.1.links o.1.links.sources there.0 (none_leads o.1.links.sources)) (well_left made faults later well),
+        output_given made place inputs env o.1.links o.1.links.sources (output_settles env [] ready o.1.links o.1.links.sources there.0 (none_leads o.1.links.sources)) (well_left made faults later well),
         outputs_given env ready os there.1 (well_right made faults later well),
       )
-
-  -- ---- the outputs of a step are what its id leads to
-
-  same_ids : (env : Env) (some : List (Name × Step)) → keys_of (outs_of env some) ≡ ids_of some
-  same_ids env [] = refl
-  same_ids env (e ∷ es) = ap (λ (ids : List Name). e.0 ∷ ids) (same_ids env es)
-
-  pub put_at : (env now : Env) (some : List (Name × Step)) → differ (ids_of some) ≡ true → (e : Name × Step) → IsIn e some → value_at e.0 (put_from now (outs_of env some)) ≡ Some (F e.1 e.0 place inputs env).outs
-  put_at env now [] apart e at = absurd at
-  put_at env now (x ∷ xs) apart e (inl here) =
-      let outs : Outs = (F x.1 x.0 place inputs env).outs in
-      let other : list_any (bytes_eq x.0) (ids_of xs) ≡ false = not_true (list_any (bytes_eq x.0) (ids_of xs)) (and_left (not (list_any (bytes_eq x.0) (ids_of xs))) (differ (ids_of xs)) apart) in
-      subst (λ (s : Name × Step). value_at s.0 (put_from (with_value x.0 outs now) (outs_of env xs)) ≡ Some (F s.1 s.0 place inputs env).outs) (sym here)
-      (put_past x.0 (with_value x.0 outs now) (outs_of env xs) (ap (list_any (bytes_eq x.0)) (same_ids env xs) ∙ other)
-      ∙ value_at-with_value x.0 x.0 outs now
-      ∙ ap (λ (b : Bool). cond b (Some outs) (value_at x.0 now)) (name_itself x.0))
-  put_at env now (x ∷ xs) apart e (inr later) =
-      put_at env (with_value x.0 (F x.1 x.0 place inputs env).outs now) xs (and_right (not (list_any (bytes_eq x.0) (ids_of xs))) (differ (ids_of xs)) apart) e later
 
   well_at : (env : Env) (some : List (Name × Step)) → AllWell made (met_of env some) → (e : Name × Step) → IsIn e some → AllWell made (F e.1 e.0 place inputs env).met
   well_at env [] well e at = absurd at
@@ -254,7 +230,7 @@ module _ (made : Made) (measures : Measures) (F : Step → StepMeaning) (workflo
         let outs : AreGiven (out-Step e.1).outputs (F e.1 e.0 place inputs (env_at n)).outs =
         all_in (λ (e : Name × Step). StepGives made measures (F e.1) (out-Step e.1)) steps gives e at e.0 place inputs (env_at n)
         (entries_settle (env_at n) left ready (out-Step e.1).inputs step.sources free) (well_at (env_at n) steps well e at) in
-        λ name among. subst (λ (found : Option Outs). is_some (out_under name found) ≡ true) (sym (put_at (env_at n) [] steps apart e at)) (outs name among)
+        λ name among. subst (λ (found : Option Outs). is_some (out_under name found) ≡ true) (sym (put_at made measures F workflow place inputs (env_at n) [] steps apart e at)) (outs name among)
 
     one_round : (n : ℕ) (left : List (Name × Step)) → Ready (env_at n) left → IsWellAt n → Ready (env_at (suc n)) (still_waiting left)
     one_round n left ready well e at out = by (waits_for left e) refl

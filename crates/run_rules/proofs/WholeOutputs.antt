@@ -40,7 +40,7 @@ use Rattle.job_graph.proofs.laws_of_walks.Places.{IsAmong, ids_of, workflow_diff
 use Rattle.job_graph.proofs.laws_of_walks.Steps.{entries_of}
 use Rattle.job_graph.proofs.laws_of_walks.Grown.{steps_rise}
 use Rattle.job_graph.proofs.laws_of_walks.Gives.{AreGiven, AllWell, first_some, some_map, given_under, by_names, enter_gives}
-use Rattle.job_graph.proofs.laws_of_walks.Waits.{StepGives, workflow_gives, last_env}
+use Rattle.run_rules.proofs.WaitingSteps.{StepGives, workflow_gives, last_env}
 
 -- ---- each output has a value
 
