@@ -11,8 +11,9 @@ use Rattle.end_words.specs.Told.{AreNotes, Held, IsExplained, IsLeftTold, IsSavi
 use Rattle.program_words.specs.RunWords.{RunWish}
 use Rattle.program_words.specs.declared.shows.Shows.{Shows}
 use Rattle.program_words.specs.declared.shows.Shows.TheVariants.{Outputs, Lines as Described, Template, Command}
-use Rattle.cwl_program.specs.Showings.{IsEndOfShowing}
-use Rattle.cwl_program.specs.Tells.{Explains, IsEndOf, IsEndOfWords, IsRunTold, LeadsTo, Tells, asks_why, chooses, explains, out_of_memory, telling_of}
+use Rattle.show_call.specs.Showings.{IsEndOfShowing}
+use Rattle.cwl_program.specs.Tells.{Explains, IsEndOf, IsEndOfWords, LeadsTo, Tells, asks_why, chooses, explains, out_of_memory, telling_of}
+use Rattle.run_call.specs.Runs.{IsRunTold}
 use Rattle.program_words.specs.declared.command.Choice.{Choice}
 use Rattle.end_words.specs.declared.exit.Exit.{Exit}
 use Rattle.end_words.specs.declared.exit.Exit.TheVariants.{Fault}
@@ -21,6 +22,14 @@ use Rattle.end_words.specs.declared.run_end.RunEnd.{RunEnd}
 use Rattle.program_words.specs.declared.savings.Savings.{Savings}
 use Rattle.program_words.specs.declared.telling.Telling.{Telling}
 use Rattle.program_words.specs.declared.telling.Telling.TheVariants.{Nothing, Lines, OneLine, Objects}
+use Rattle.std.proofs.lemmas.Result.{IfOk-weaker}
+use Rattle.document_links.specs.declared.process.Process.{Process}
+use Rattle.cwl_program.specs.Demo as demo
+use Rattle.cwl_program.specs.Certificates.{IsCheck, unread}
+use Rattle.end_words.specs.Stops.{IsStop, IsUnread}
+use Rattle.end_words.specs.declared.stop.Stop.{Stop}
+use Rattle.end_words.specs.declared.stop.Stop.TheVariants.{Early, OutOfMemory}
+use Rattle.run_given.proofs.Stops.{ends_so}
 
 module _ {R K L : Type 0} (records : RecordsOf R K L) (rows : RowsOf K) (rt : R) where
   -- what a choice comes to, or the fault where memory was short
@@ -82,3 +91,25 @@ module _ {R K L : Type 0} (records : RecordsOf R K L) (rows : RowsOf K) (rt : R)
       → IfOk answer (λ end. IsEndOfWords records rows rt shows words path end.exit end.left)
   shows_so shows words path (Err error) other is gone = tt
   shows_so shows words path (Ok end) other is gone = shows_of shows words path end.exit end.left other is gone
+
+pub check_stops : (file : Text) (stop : Stop) (answer : Result Exit AllocError)
+    → IsStop (IsUnread file) stop → IfOk answer (λ exit. stop ≡ Early exit) → IfOk answer (IsCheck file)
+check_stops file stop answer is same = IfOk-weaker answer _ _ (λ exit end. unread end) (ends_so _ stop answer is same)
+
+-- an end of which nothing else is told
+pub bare_so : (IsEnd : Exit → Type 0) (told : Result Exit AllocError) (answer : Result RunEnd AllocError)
+    → IfOk told IsEnd → IfOk answer (λ end. told ≡ Ok end.exit) → IfOk answer (λ end. end.left ≡ None)
+    → IfOk answer (λ end. IsEnd end.exit × (end.left ≡ None))
+bare_so IsEnd told (Err error) is same gone = tt
+bare_so IsEnd told (Ok end) is same gone = (subst (λ (t : Result Exit AllocError). IfOk t IsEnd) same is, gone)
+
+pub demo_without_process : (path : Text) (stop : Stop) (answer : Result Exit AllocError)
+    → IsStop demo.IsNoDemoProcess stop → IfOk answer (λ exit. stop ≡ Early exit) → IfOk answer (demo.IsDemoExit path)
+demo_without_process path stop answer is same =
+    IfOk-weaker answer _ _ (λ exit end. demo.no_process end) (ends_so _ stop answer is same)
+
+pub demo_without_inputs : (path : Text) (process : Process) (stop : Stop) (answer : Result Exit AllocError)
+    → demo.IsDemoProcess process → IsStop demo.IsNoDemoInputs stop
+    → IfOk answer (λ exit. stop ≡ Early exit) → IfOk answer (demo.IsDemoExit path)
+demo_without_inputs path process stop answer named is same =
+    IfOk-weaker answer _ _ (λ exit end. demo.no_inputs process named end) (ends_so _ stop answer is same)

@@ -5,9 +5,9 @@ use Rattle.url.specs.Parts.{Parts}
 use Rattle.document_links.specs.declared.process.Process.{Process}
 use Rattle.job_graph.specs.Words.{Fields}
 use Rattle.run_rules.specs.declared.setting.Options.{Options}
-use Rattle.cwl_program.specs.Paths.{IsAt}
-use Rattle.cwl_program.specs.Runs.{IsRan}
-use Rattle.cwl_program.specs.Sources.{IsAccepted, IsDocumentStop, IsInputs, IsInputsStop}
+use Rattle.run_given.specs.Paths.{IsAt}
+use Rattle.run_call.specs.Runs.{IsRan}
+use Rattle.run_given.specs.Sources.{IsAccepted, IsDocumentStop, IsInputs, IsInputsStop}
 use Rattle.cwl_program.specs.declared.demo.TheConstants.{DOCUMENT, INPUTS}
 use Rattle.end_words.specs.declared.exit.Exit.{Exit}
 

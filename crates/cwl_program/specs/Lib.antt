@@ -1,13 +1,3 @@
-pub mod Caches
 pub mod Certificates
-pub mod Checked
 pub mod Demo
-pub mod Held
-pub mod Listed
-pub mod Paths
-pub mod Plans
-pub mod Runs
-pub mod Seen
-pub mod Showings
-pub mod Sources
 pub mod Tells

@@ -1,68 +1,32 @@
 -- What the program writes to its two writers for these words and this `PATH`, and the status that it then answers.
-use Rattle.std.specs.Prelude.{◌≡◌, ◌≢◌, ◌⊎◌, ⊤, ℕ, codes, List, Bool, false, Option, None, Some}
-use Rattle.clap.specs.Words.{IsAmong, Text, fault_of}
+use Rattle.record_call.specs.RecordEnds.{IsRecordExit}
+use Rattle.std.specs.Prelude.{◌≡◌, ℕ, false, List, Option, None, ◌≢◌, Bool}
+use Rattle.clap.specs.Words.{Text, IsAmong, fault_of}
+use Rattle.job_rows.specs.declared.record.Record.{Ghosts as RowsOf}
+use Rattle.record_program.specs.declared.file.Records.{Ghosts as RecordsOf}
+use Rattle.program_words.specs.RunWords.{RunWish, wish_of_run}
+use Rattle.end_words.specs.declared.exit.Exit.{Exit}
+use Rattle.end_words.specs.declared.exit.Fault.TheVariants as faults
 use Rattle.clap.specs.declared.error.ErrorKind.{ErrorKind}
 use Rattle.clap.specs.declared.error.ErrorKind.TheVariants.{DisplayHelp, DisplayVersion}
-use Rattle.job_rows.specs.declared.record.Record.{Ghosts as RowsOf}
-use Rattle.record_program.specs.Endings as record_program
-use Rattle.record_program.specs.declared.file.Records.{Ghosts as RecordsOf}
-use Rattle.record_program.specs.declared.ending.Ending.{Ending}
-use Rattle.record_program.specs.declared.ending.Ending.TheVariants.{Input}
 use Rattle.program_words.specs.CommandLine.{Asks, command_line, wish_of}
-use Rattle.program_words.specs.RecordWords.{RecordWish, wish_of_record}
-use Rattle.program_words.specs.RecordForm.{IsForm}
-use Rattle.program_words.specs.RunWords.{RunWish, wish_of_run}
+use Rattle.program_words.specs.RecordWords.{wish_of_record}
 use Rattle.program_words.specs.declared.command.Choice.{Choice}
 use Rattle.program_words.specs.declared.command.Choice.TheVariants.{Demo, Check, Run, Plan, Record}
-use Rattle.program_words.specs.declared.record_form.RecordForm.TheVariants as forms
 use Rattle.program_words.specs.declared.savings.Savings.{Savings}
 use Rattle.program_words.specs.declared.shows.Shows.{Shows}
 use Rattle.program_words.specs.declared.shows.Shows.TheVariants.{Outputs}
 use Rattle.program_words.specs.declared.telling.Telling.{Telling}
-use Rattle.program_words.specs.declared.telling.Telling.TheVariants.{Nothing, Lines, OneLine, Objects}
+use Rattle.program_words.specs.declared.telling.Telling.TheVariants.{Nothing}
 use Rattle.end_words.specs.Told.{Held, Says}
-use Rattle.end_words.specs.declared.exit.Exit.{Exit}
-use Rattle.end_words.specs.declared.exit.Exit.TheVariants.{Record as Listed, Fault}
-use Rattle.end_words.specs.declared.exit.Fault.TheVariants as faults
-use Rattle.cwl_program.specs.Caches.{within}
+use Rattle.end_words.specs.declared.exit.Exit.TheVariants.{Fault}
 use Rattle.cwl_program.specs.Certificates.{IsCheck}
-use Rattle.cwl_program.specs.Checked.{IsCheckOn}
 use Rattle.cwl_program.specs.Demo.{IsDemoExit}
-use Rattle.cwl_program.specs.Listed.{IsLongOn}
-use Rattle.cwl_program.specs.Plans.{IsEndOfPlan}
-use Rattle.cwl_program.specs.Runs.{IsEndOfRun}
-use Rattle.cwl_program.specs.Showings.{IsEndOfShowing}
-
--- the file of the record that is named, or that of the cache which is named
-abbrev pub IsRecordFile : (name file : Text) → Type 0
-IsRecordFile name file = (file ≡ name) ⊎ (file ≡ within name (codes "jobs.db"))
-
--- what is named is no cache: the name leads to nothing that can be looked at, or to no folder
-pub data IsNoCache : Exit → Type 0 where
-  absent : IsNoCache (Listed Input)
-  no_folder : IsNoCache (Fault faults.RecordWords)
+use Rattle.plan_call.specs.Plans.{IsEndOfPlan}
+use Rattle.run_call.specs.Runs.{IsEndOfRun, IsRunTold}
+use Rattle.show_call.specs.Showings.{IsEndOfShowing}
 
 module _ {R K L : Type 0} (records : RecordsOf R K L) (rows : RowsOf K) (rt : R) where
-  -- archives of a cache go until the others have at most so many bytes, and what is left is shown
-  pub data IsTrim (cache : Text) (budget : ℕ) : Exit → Type 0 where
-    trims : (ending : Ending) (lost : List Text) → record_program.IsEnding ending →
-        records.trims rt (within cache (codes "jobs.db")) budget ending lost → IsTrim cache budget (Listed ending)
-    untrimmed : {exit : Exit} → IsNoCache exit → IsTrim cache budget exit
-
-  -- it is said in what the files of a cache and its record differ
-  pub data IsCheckOf (cache : Text) (remove : Bool) : Exit → Type 0 where
-    checks : {ending : Ending} → IsCheckOn records rt cache remove ending → IsCheckOf cache remove (Listed ending)
-    unchecked : {exit : Exit} → IsNoCache exit → IsCheckOf cache remove exit
-
-  -- the command of a record ends the program in its own way, on the file that is named, or on that of the cache which is named
-  pub data IsRecordExit (wish : RecordWish) : Exit → Type 0 where
-    shows : (file : Text) (ending : Ending) → IsForm wish forms.Rows → IsRecordFile wish.file file → record_program.IsEnding ending →
-        records.ends rt file wish.forget ending → IsRecordExit wish (Listed ending)
-    lists : (file : Text) (ending : Ending) → IsForm wish forms.Long → IsRecordFile wish.file file → IsLongOn records rt file ending → IsRecordExit wish (Listed ending)
-    is_trim : {exit : Exit} (budget : ℕ) → IsForm wish (forms.Trim budget) → IsTrim wish.file budget exit → IsRecordExit wish exit
-    is_check : {exit : Exit} (remove : Bool) → IsForm wish (forms.Check remove) → IsCheckOf wish.file remove exit → IsRecordExit wish exit
-    misused : IsForm wish forms.Misused → IsRecordExit wish (Fault faults.RecordWords)
-
   -- a run, or what is shown in place of one, which leaves nothing
   abbrev pub IsEndOfWords : Shows → RunWish → (path : Text) → Exit → (left : Option Text) → Type 0
   IsEndOfWords Outputs words path exit left = IsEndOfRun records rows rt words path exit left
@@ -74,7 +38,7 @@ module _ {R K L : Type 0} (records : RecordsOf R K L) (rows : RowsOf K) (rt : R)
   IsEndOf path (Check file explains) exit left = IsCheck file.now exit × (left ≡ None)
   IsEndOf path (Run words) exit left = IsEndOfWords words.shows (wish_of_run words) path exit left
   IsEndOf path (Plan words) exit left = IsEndOfPlan (wish_of_run words.run) words.dot path exit × (left ≡ None)
-  IsEndOf path (Record words) exit left = IsRecordExit (wish_of_record words) exit × (left ≡ None)
+  IsEndOf path (Record words) exit left = IsRecordExit records rows rt (wish_of_record words) exit × (left ≡ None)
 
 -- whether the choice asks for words on what went wrong
 abbrev pub asks_why : Choice → Bool
@@ -100,13 +64,6 @@ module _ {R K L : Type 0} (records : RecordsOf R K L) (rows : RowsOf K) (rt : R)
         LeadsTo words path (Fault faults.OutOfMemory) None (asks_why choice) (telling_of choice)
     -- or before the words were read
     unread : LeadsTo words path (Fault faults.OutOfMemory) None false Nothing
-
--- what the errors take before the end is said: nothing where no words want the jobs to be told of
-abbrev pub IsRunTold : Telling → (err err_run : Held) → Type 0
-IsRunTold Nothing err err_run = err_run ≡ err
-IsRunTold Lines err err_run = ⊤
-IsRunTold OneLine err err_run = ⊤
-IsRunTold Objects err err_run = ⊤
 
 -- `clap` answers with what is wrong, and not with the help that the words ask for
 abbrev pub IsWrong : ErrorKind → Type 0

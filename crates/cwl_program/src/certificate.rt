@@ -1,15 +1,15 @@
 ghost use Rattle.std.specs.Prelude.{◌≡◌, IfOk};
 ghost use Rattle.cwl_program.specs.Certificates.{IsCheck, IsJudgement, IsVerdict, ok_line};
 
-use crate::standard_input::bytes_of;
 use end_words::{Exit, Refusal, stopped, unread};
 use plain_data::Text;
 use plan_checker::{CertificateError, Charges, Graph, Plan, check, read_certificate};
+use run_given::bytes_of;
 use std::alloc::{AllocError, Global};
 use std::rt::Files;
 
 /// Says what the certificate in a file shows, or that on standard input.
-#[tactic(auto, using(crate::proofs::Stops::check_stops))]
+#[tactic(auto, using(crate::proofs::Ends::check_stops))]
 pub fn exit_of_check<R: AllocGlobal + Files + Input>(rt: &R, file: &str) -> Result<Exit, AllocError>
     ensures { IfOk result (IsCheck file.now) }
 {

@@ -1,14 +1,11 @@
 //! The worked example.
 ghost use Rattle.std.specs.Prelude.{◌≡◌, IfOk, IfErr, None};
-ghost use Rattle.run_core.specs.Limits.{IsWithinLimits};
+ghost use Rattle.run_rules.specs.Limits.{IsWithinLimits};
 ghost use Rattle.workflow_check.specs.Checked.{fault_in};
 ghost use Rattle.cwl_program.specs.Demo as spec;
-ghost use Rattle.cwl_program.specs.Runs.{IsRan};
+ghost use Rattle.run_call.specs.Runs.{IsRan};
 ghost use Rattle.end_words.specs.Stops.{IsStop};
 
-use crate::documents::accepted_of;
-use crate::inputs::inputs_at;
-use crate::paths::base_of;
 use cwl_value::Value;
 use document_links::{Docs, Document, Process};
 use end_words::{Exit, Given, Stop, exit_of_run, stopped};
@@ -16,6 +13,7 @@ use job_rows::MemoryRecord;
 use plain_data::{Items, Keyed, Text};
 use proc_host::{Reply, Scripted};
 use run_core::Options;
+use run_given::{accepted_of, base_of, inputs_at};
 use staging::Found;
 use std::alloc::{AllocError, Global};
 use std::mem;

@@ -3,26 +3,27 @@ ghost use Rattle.clap.specs.Words.{HasKind, fault_of, kind_of};
 ghost use Rattle.program_words.specs.CommandLine.{Asks, command_line};
 ghost use Rattle.program_words.specs.RunWords.{wish_of_run};
 ghost use Rattle.end_words.specs.Told.{IsTold, Says};
-ghost use Rattle.cwl_program.specs.Tells.{Explains, IsEndOf, IsEndOfWords, IsRunTold, LeadsTo, Tells, asks_why, telling_of};
+ghost use Rattle.cwl_program.specs.Tells.{Explains, IsEndOf, IsEndOfWords, LeadsTo, Tells, asks_why, telling_of};
+ghost use Rattle.run_call.specs.Runs.{IsRunTold};
 
 use crate::certificate::exit_of_check;
 use crate::demo::exit_of_demo;
-use crate::plan::end_of_plan;
-use crate::record_exit::exit_of_record;
-use crate::run::end_of_process;
-use crate::showing::end_of_showing;
 use crate::standard_output::StandardOutput;
 use crate::usual_words::{answer_words, processors_of};
 use clap::Error;
 use clap::error::ErrorKind;
 use end_words::{Exit, Fault, RunEnd, explain_exit, put_left, put_notes, put_savings, put_unkept};
 use given_words::{with_budget, with_preference, with_slots};
+use plan_call::end_of_plan;
 use process_machine::World;
 use program_words::{
     Choice, RunWords, Shows, Telling, add_explain_word, add_terminal_words, choice_of,
     name_json_word,
 };
+use record_call::exit_of_record;
 use record_program::{Ending, Records};
+use run_call::end_of_process;
+use show_call::end_of_showing;
 use std::alloc::{AllocError, Global};
 use std::env::VarError;
 use std::io::{IsTerminal, Stdout, Write};

@@ -8,38 +8,10 @@
 //! becomes of its jobs while it goes on, if the words want it.
 #![tactic(auto)]
 
-mod caches;
 mod certificate;
-mod checked;
 mod demo;
-mod documents;
 mod entry;
-mod folders;
-mod forgetting;
-mod hearing;
-mod held;
-mod inputs;
-mod jobs;
-mod listed;
-mod looks;
-mod memory;
-mod nearby;
-mod notes;
-mod on_machine;
-mod outdir;
-mod paths;
-mod plan;
-mod plan_texts;
-mod process_forms;
-mod record_exit;
-mod run;
-mod run_record;
-mod showing;
-mod standard_input;
 mod standard_output;
-mod tool_command;
-mod traces;
 mod usual_words;
-mod work_folder;
 
 pub use entry::{main_run, program};

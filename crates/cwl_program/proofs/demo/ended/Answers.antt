@@ -1,6 +1,6 @@
 use Rattle.std.proofs.Common.{subst, sym}
 use Rattle.std.proofs.lemmas.Result.{IfOk-weaker}
-use Rattle.cwl_program.specs.Runs.{IsRan, ran}
+use Rattle.run_call.specs.Runs.{IsRan, ran}
 use Rattle.end_words.specs.declared.exit.Exit.{Exit}
 use Rattle.cwl_program.proofs.demo.ended.Goals as goal
 

@@ -1,4 +1,4 @@
-use Rattle.cwl_program.proofs.Stops.{demo_without_process}
+use Rattle.cwl_program.proofs.Ends.{demo_without_process}
 use Rattle.cwl_program.proofs.demo.exit_of_demo.Goals as goal
 
 pub returns-in-Err : goal.returns-in-Err

@@ -2,7 +2,7 @@ use Rattle.std.proofs.Common.{subst}
 use Rattle.std.proofs.lemmas.Result.{IfOk-weaker}
 use Rattle.run_rules.specs.declared.setting.Options.{Options}
 use Rattle.cwl_program.specs.Demo.{runs}
-use Rattle.cwl_program.specs.Runs.{IsRan}
+use Rattle.run_call.specs.Runs.{IsRan}
 use Rattle.cwl_program.proofs.demo.in_world.Goals as goal
 
 pub returns : goal.returns

@@ -1,4 +1,4 @@
-use Rattle.cwl_program.proofs.Stops.{demo_without_inputs}
+use Rattle.cwl_program.proofs.Ends.{demo_without_inputs}
 use Rattle.cwl_program.proofs.demo.on_process.Goals as goal
 
 pub returns-in-Err : goal.returns-in-Err

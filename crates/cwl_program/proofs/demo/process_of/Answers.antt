@@ -1,5 +1,5 @@
 use Rattle.std.proofs.lemmas.Result.{IfOk-weaker}
-use Rattle.cwl_program.proofs.Stops.{stops_so}
+use Rattle.run_given.proofs.Stops.{stops_so}
 use Rattle.cwl_program.proofs.demo.process_of.Goals as goal
 
 pub returns-clause-ok : goal.returns-clause-ok

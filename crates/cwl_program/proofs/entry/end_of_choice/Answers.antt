@@ -1,7 +1,7 @@
 use Rattle.std.proofs.Common.{IfOk, subst, sym}
-use Rattle.cwl_program.proofs.Plans.{and_leaves_nothing}
-use Rattle.cwl_program.proofs.Stops.{bare_so}
-use Rattle.cwl_program.specs.Plans.{IsEndOfPlan}
+use Rattle.plan_call.proofs.Plans.{and_leaves_nothing}
+use Rattle.cwl_program.proofs.Ends.{bare_so}
+use Rattle.plan_call.specs.Plans.{IsEndOfPlan}
 use Rattle.program_words.specs.RunWords.{wish_of_run}
 use Rattle.cwl_program.specs.Tells.{IsEndOf}
 use Rattle.program_words.specs.declared.command.Choice.{Choice}

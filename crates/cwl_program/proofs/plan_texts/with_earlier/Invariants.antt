@@ -1,6 +1,0 @@
-use Rattle.std.proofs.Common.{◌≡◌, ◌++◌, flat_map, string_bytes, take}
-use Rattle.cwl_program.specs.Plans.{earlier_words}
-use Rattle.cwl_program.proofs.plan_texts.with_earlier.Given as goal
-
-abbrev pub invariant-loop-own : goal.invariant-loop-own
-invariant-loop-own l = string_bytes l.text ≡ l.fn.line ++ flat_map earlier_words (take l.own-index l.earlier)

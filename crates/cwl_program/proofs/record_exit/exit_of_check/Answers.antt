@@ -1,5 +1,0 @@
-use Rattle.cwl_program.specs.Tells.{checks}
-use Rattle.cwl_program.proofs.record_exit.exit_of_check.Goals as goal
-
-pub returns-in_ok-checked-in-None : goal.returns-in_ok-checked-in-None
-returns-in_ok-checked-in-None g c = checks c.in_ok-checked-in-None.ensures

@@ -1,0 +1,3 @@
+pub mod PlannedJobs
+pub mod Plans
+pub mod WaitingLines

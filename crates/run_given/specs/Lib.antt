@@ -1,0 +1,5 @@
+pub mod Caches
+pub mod Held
+pub mod Named
+pub mod Paths
+pub mod Sources

@@ -1,0 +1,92 @@
+-- What the words of a call name: the process, the inputs and the folders; and why there may be nothing to run.
+use Rattle.std.specs.Prelude.{◌≡◌, ◌≤◌, ℕ, true, List, length, codes, Option, Some, None, unwrap_or, is_some, option_map}
+use Rattle.clap.specs.Words.{Text}
+use Rattle.url.specs.Parts.{Parts}
+use Rattle.document_links.specs.Library.{Documents}
+use Rattle.document_links.specs.declared.process.Process.{Process}
+use Rattle.job_graph.specs.Words.{Fields}
+use Rattle.job_record.specs.declared.fault.RecordFault.{RecordFault}
+use Rattle.run_rules.specs.declared.setting.Options.{Options}
+use Rattle.run_given.specs.Caches.{archive_of, is_twofold, record_of}
+use Rattle.run_given.specs.Paths.{IsAt, from_root}
+use Rattle.program_words.specs.RunWords.{IsChosen, RunWish}
+use Rattle.run_given.specs.Sources.{IsAccepted, IsDocumentStop, IsInputs, IsInputsStop}
+use Rattle.end_words.specs.Stops.{IsUnread, most_bytes}
+use Rattle.end_words.specs.declared.exit.Exit.{Exit}
+use Rattle.end_words.specs.declared.exit.Exit.TheVariants as exits
+use Rattle.end_words.specs.declared.exit.Fault.TheVariants as faults
+use Rattle.end_words.specs.declared.given.Given.{Given}
+use Rattle.end_words.specs.declared.given.Places.{Places}
+
+-- ---- what the words of `run` name, for a program that is called in the folder `here`
+
+-- what is read of a file has 64 MiB at most
+abbrev pub IsRead : List ℕ → Type 0
+IsRead bytes = length bytes ≤ most_bytes
+
+-- the process of the document that is named: of some text at its URL, with some documents
+abbrev pub IsNamedProcess : (here : Text) (words : RunWish) → Process → Type 0
+IsNamedProcess here words process =
+    (bytes : List ℕ) × (base : Parts) × (docs : Documents) × IsRead bytes × IsAt here words.document base × IsAccepted bytes base docs process
+
+-- the text of the inputs: that of their file, or `{}` where none is named
+abbrev pub IsInputsText : Option Text → List ℕ → Type 0
+IsInputsText None bytes = bytes ≡ codes "{}"
+IsInputsText (Some name) bytes = IsRead bytes
+
+-- its URL is that of its file, or the document's
+abbrev pub IsInputsUrl : (here : Text) (words : RunWish) → Parts → Type 0
+IsInputsUrl here words base = IsAt here (unwrap_or words.inputs words.document) base
+
+-- the inputs that are named: those of some text at their URL
+abbrev pub IsNamedInputs : (here : Text) (words : RunWish) → Fields → Type 0
+IsNamedInputs here words inputs =
+    (bytes : List ℕ) × (base : Parts) × IsInputsText words.inputs bytes × IsInputsUrl here words base × IsInputs bytes base inputs
+
+pub record IsReady (here : Text) (words : RunWish) (given : Given) : Type 0 where
+  pub process : IsNamedProcess here words given.process
+  pub inputs : IsNamedInputs here words given.inputs
+
+-- there is no such process, and the program ends so: the document's file can't be read, or its text is wrong
+pub data IsNoProcess (here : Text) (words : RunWish) : Exit → Type 0 where
+  document_unread : {exit : Exit} → IsUnread words.document exit → IsNoProcess here words exit
+  document_wrong : {exit : Exit} (bytes : List ℕ) (base : Parts) (docs : Documents) → IsRead bytes → IsAt here words.document base →
+      IsDocumentStop bytes base docs exit → IsNoProcess here words exit
+
+-- their file can't be read, where one is named
+abbrev pub IsInputsUnread : Option Text → Exit → Type 0
+IsInputsUnread None exit = ⊥
+IsInputsUnread (Some name) exit = IsUnread name exit
+
+-- there are no such inputs
+pub data IsNoInputs (here : Text) (words : RunWish) : Exit → Type 0 where
+  inputs_unread : {exit : Exit} → IsInputsUnread words.inputs exit → IsNoInputs here words exit
+  inputs_wrong : {exit : Exit} (bytes : List ℕ) (base : Parts) → IsInputsText words.inputs bytes → IsInputsUrl here words base →
+      IsInputsStop bytes base exit → IsNoInputs here words exit
+
+-- there is nothing to run or to plan: a cache is named beside a record or an archive; else the document is looked at first, then the
+-- inputs, then the record is opened where one is named
+pub data IsUnready (here : Text) (words : RunWish) : Exit → Type 0 where
+  twofold : is_twofold words ≡ true → IsUnready here words (exits.Fault faults.Words)
+  no_process : {exit : Exit} → IsNoProcess here words exit → IsUnready here words exit
+  no_inputs : {exit : Exit} (process : Process) → IsNamedProcess here words process → IsNoInputs here words exit → IsUnready here words exit
+  no_record : (given : Given) (file : Text) (fault : RecordFault) → IsReady here words given → record_of words ≡ Some file →
+      IsUnready here words (exits.Fault (faults.Unopened file fault))
+
+-- the folders of a run are those that are named
+pub record AreNamed (here : Text) (words : RunWish) (places : Places) : Type 0 where
+  pub work : places.work ≡ from_root here words.work
+  pub outdir : places.outdir ≡ from_root here words.outdir
+  pub archive : places.archive ≡ option_map (from_root here) (archive_of words)
+
+-- what a run may use, and where, with this `PATH`: the slots and the retries are those that the words give, else 1 and 0; so are what a load
+-- costs, else 1, and how many bytes cost 1 more, else 100,000; and an archive is kept where the words name one
+pub record IsAsked (here : Text) (words : RunWish) (path : Text) (options : Options) : Type 0 where
+  pub work : options.work ≡ from_root here words.work
+  pub outdir : options.outdir ≡ from_root here words.outdir
+  pub path_env : options.path_env ≡ path
+  pub slots : IsChosen 1 64 1 words.slots options.slots
+  pub retries : IsChosen 0 10 0 words.retries options.retries
+  pub base : IsChosen 0 1000000000000 1 words.base options.base
+  pub rate : IsChosen 1 1000000000000 100000 words.rate options.rate
+  pub keep : options.keep ≡ is_some (archive_of words)
