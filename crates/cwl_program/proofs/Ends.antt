@@ -26,9 +26,9 @@ use Rattle.std.proofs.lemmas.Result.{IfOk-weaker}
 use Rattle.document_links.specs.declared.process.Process.{Process}
 use Rattle.cwl_program.specs.Demo as demo
 use Rattle.cwl_program.specs.Certificates.{IsCheck, unread}
-use Rattle.end_words.specs.Stops.{IsStop, IsUnread}
-use Rattle.end_words.specs.declared.stop.Stop.{Stop}
-use Rattle.end_words.specs.declared.stop.Stop.TheVariants.{Early, OutOfMemory}
+use Rattle.run_given.specs.Stops.{IsStop, IsUnread}
+use Rattle.run_given.specs.declared.stop.Stop.{Stop}
+use Rattle.run_given.specs.declared.stop.Stop.TheVariants.{Early, OutOfMemory}
 use Rattle.run_given.proofs.Stops.{ends_so}
 
 module _ {R K L : Type 0} (records : RecordsOf R K L) (rows : RowsOf K) (rt : R) where

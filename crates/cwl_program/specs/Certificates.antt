@@ -8,7 +8,7 @@ use Rattle.plan_checker.specs.Broken.{IsFirstBroken}
 use Rattle.plan_checker.specs.Certificate.{IsCertificate}
 use Rattle.plan_checker.specs.Format.{IsTextOf, IsFirstBad}
 use Rattle.plan_checker.specs.Plan.{cost}
-use Rattle.end_words.specs.Stops.{IsUnread, most_bytes}
+use Rattle.run_given.specs.Stops.{IsUnread, most_bytes}
 use Rattle.end_words.specs.declared.exit.Exit.{Exit}
 use Rattle.end_words.specs.declared.exit.Exit.TheVariants.{Output, Broken, Refused}
 use Rattle.end_words.specs.declared.exit.Refusal.TheVariants as refusals

@@ -1,10 +1,10 @@
 ghost use Rattle.std.specs.Prelude.{◌≡◌, IfOk};
 ghost use Rattle.cwl_program.specs.Certificates.{IsCheck, IsJudgement, IsVerdict, ok_line};
 
-use end_words::{Exit, Refusal, stopped, unread};
+use end_words::{Exit, Refusal};
 use plain_data::Text;
 use plan_checker::{CertificateError, Charges, Graph, Plan, check, read_certificate};
-use run_given::bytes_of;
+use run_given::{bytes_of, stopped, unread};
 use std::alloc::{AllocError, Global};
 use std::rt::Files;
 

@@ -1,9 +1,8 @@
 ghost use Rattle.std.specs.Prelude.{◌≡◌, ◌≢◌, None, Ok, IfOk, IfErr, OnOk, OnErr, map, string_bytes};
 ghost use Rattle.clap.specs.Words.{HasKind, fault_of, kind_of};
-ghost use Rattle.program_words.specs.CommandLine.{Asks, command_line};
-ghost use Rattle.program_words.specs.RunWords.{wish_of_run};
+ghost use Rattle.program_words.specs.CommandLine.{command_line};
 ghost use Rattle.end_words.specs.Told.{IsTold, Says};
-ghost use Rattle.cwl_program.specs.Tells.{Explains, IsEndOf, IsEndOfWords, LeadsTo, Tells, asks_why, telling_of};
+ghost use Rattle.cwl_program.specs.Tells.{Explains, IsEndOf, LeadsTo, Tells, asks_why, telling_of};
 ghost use Rattle.run_call.specs.Runs.{IsRunTold};
 
 use crate::certificate::exit_of_check;
@@ -17,8 +16,7 @@ use given_words::{with_budget, with_preference, with_slots};
 use plan_call::end_of_plan;
 use process_machine::World;
 use program_words::{
-    Choice, RunWords, Shows, Telling, add_explain_word, add_terminal_words, choice_of,
-    name_json_word,
+    Choice, Shows, Telling, add_explain_word, add_terminal_words, choice_of, name_json_word,
 };
 use record_call::exit_of_record;
 use record_program::{Ending, Records};
@@ -243,28 +241,12 @@ where
     match choice {
         Choice::Demo(_) => bare(rt.alloc(), exit_of_demo(rt.alloc(), path)),
         Choice::Check(file, _) => bare(rt.alloc(), exit_of_check(rt, file)),
-        Choice::Run(words) => end_of_words(rt, words, path, err),
+        Choice::Run(words) => match words.shows {
+            Shows::Outputs => end_of_process(rt, words, path, err),
+            _ => end_of_showing(rt, words, path),
+        },
         Choice::Plan(words) => end_of_plan(rt, words, path),
         Choice::Record(words) => bare(rt.alloc(), exit_of_record(rt, words)),
-    }
-}
-
-// A run, or what is shown in place of one.
-fn end_of_words<R: World + Env + Input + Records, E: Write>(
-    rt: &R,
-    words: &RunWords,
-    path: &str,
-    err: &mut E,
-) -> Result<RunEnd, AllocError>
-where
-    R::File: Into<Stdio>,
-    ensures end { IfOk result (λ end. IsEndOfWords R.Records R.Kept.Record rt.now words.now.shows
-        (wish_of_run words.now) path.now end.exit end.left) }
-    ensures told { IsRunTold words.now.telling (E.contents err.old) (E.contents err.new) }
-{
-    match words.shows {
-        Shows::Outputs => end_of_process(rt, words, path, err),
-        _ => end_of_showing(rt, words, path),
     }
 }
 

@@ -1,10 +1,8 @@
-pub mod Endings
 pub mod FailedCalls
 pub mod Failures
 pub mod Leaving
 pub mod RunEnds
 pub mod Status
-pub mod Stops
 pub mod Tally
 pub mod Told
 pub mod Unwritten

@@ -4,7 +4,6 @@ ghost use Rattle.std.specs.Io.KnownBytes.{Appends};
 ghost use Rattle.end_words.specs.Told.{AreNotes, HasLine, HasLines, IsEndingExplained, IsExplained, IsLeftTold, IsPut, IsSavingsLine, IsSavingsTold, IsUnkeptLine, IsUnkeptTold, left_words, unkept_words};
 
 use crate::exit::{Exit, Fault, PlanTexts, Refusal, Unreadable};
-use crate::refused_inputs::value_words;
 use command_line::BuildFault;
 use cwl_value::ValueRefusal;
 use job_graph::Cause as NoValue;
@@ -206,6 +205,18 @@ fn put_line<E: Write>(alloc: Global, line: &str, err: &mut E) -> io::Result<()>
 {
     let shown = visible(alloc, line)?;
     writeln!(err, "{shown}")
+}
+
+/// Why a text is no input object.
+pub fn value_words(alloc: Global, refusal: ValueRefusal) -> Result<String, AllocError> {
+    match refusal {
+        ValueRefusal::NotWhole => String::from_str(alloc, "a number is not whole"),
+        ValueRefusal::OutOfRange => String::from_str(alloc, "a number is out of range"),
+        ValueRefusal::BadFile(field) => format!(in alloc; "a File or Directory has a bad {field}"),
+        ValueRefusal::NotJson => String::from_str(alloc, "the text is not JSON"),
+        ValueRefusal::OutOfMemory => String::from_str(alloc, "out of memory"),
+        ValueRefusal::TooDeep => String::from_str(alloc, "the JSON nests too deep"),
+    }
 }
 
 fn refusal_words(alloc: Global, refusal: &Refusal, notes: &[String]) -> Result<String, AllocError> {

@@ -1,5 +1,5 @@
 //! How a run ends the program, and what it leaves.
-ghost use Rattle.std.specs.Prelude.{◌≡◌, ◌++◌, [], ◌∷◌, None, Some, IfOk, map, option_map, string_bytes};
+ghost use Rattle.std.specs.Prelude.{◌≡◌, ◌++◌, [], ◌∷◌, None, Some, IfOk, OnOk, map, option_map, string_bytes};
 ghost use Rattle.program_words.specs.RunWords.{wish_of_run};
 ghost use Rattle.end_words.specs.Leaving as spec;
 ghost use Rattle.end_words.specs.Unwritten as unwritten;
@@ -11,6 +11,7 @@ use plain_data::Text;
 use proc_host::HostFault;
 use program_words::{RunWords, Savings};
 use std::alloc::{AllocError, Global};
+use std::mem;
 
 /// How the program ends, and what is said beside that.
 #[derive(Drop)]
@@ -65,7 +66,7 @@ impl RunEnd {
     }
 
     /// Adds that nothing of a run is kept, since the file of its record may not be written. It is said of a run that came to the end of its jobs.
-    pub fn unwritten(self, alloc: Global, file: &str) -> Result<RunEnd, AllocError>
+    pub fn unwritten(mut self, alloc: Global, file: &str) -> Result<RunEnd, AllocError>
         ensures exit { IfOk result (λ end. end.exit ≡ self.exit) }
         ensures left { IfOk result (λ end. end.left ≡ self.left) }
         ensures unkept { IfOk result (λ end. end.unkept
@@ -76,36 +77,26 @@ impl RunEnd {
             ≡ unwritten.savings_of self.exit self.savings) }
     {
         if is_of_jobs(&self.exit) {
-            return self.without_jobs(alloc, unwritten_words(alloc, file)?);
+            let what = unwritten_words(alloc, file)?;
+            self.keep_no_jobs(alloc, what)?;
         }
         Ok(self)
     }
 
     // Adds what of the jobs was not kept.
-    fn without_jobs(self, alloc: Global, what: String) -> Result<RunEnd, AllocError>
-        ensures exit { IfOk result (λ end. end.exit ≡ self.exit) }
-        ensures left { IfOk result (λ end. end.left ≡ self.left) }
-        ensures unkept { IfOk result (λ end. end.unkept ≡ Some (string_bytes what)) }
-        ensures notes { IfOk result (λ end. map string_bytes end.notes.items
-            ≡ map string_bytes self.notes.items ++ (unkept_words (string_bytes what) ∷ [])) }
-        ensures savings { IfOk result (λ end. end.savings
-            ≡ option_map unwritten.none_kept self.savings) }
+    fn keep_no_jobs(&mut self, alloc: Global, what: String) -> Result<(), AllocError>
+        ensures exit { OnOk result (self.new.exit ≡ self.old.exit) }
+        ensures left { OnOk result (self.new.left ≡ self.old.left) }
+        ensures unkept { OnOk result (self.new.unkept ≡ Some (string_bytes what)) }
+        ensures notes { OnOk result (map string_bytes self.new.notes.items
+            ≡ map string_bytes self.old.notes.items ++ (unkept_words (string_bytes what) ∷ [])) }
+        ensures savings { OnOk result (self.new.savings
+            ≡ option_map unwritten.none_kept self.old.savings) }
     {
-        let RunEnd {
-            exit,
-            left,
-            mut notes,
-            savings,
-            unkept: _,
-        } = self;
-        notes.push(unkept_words(alloc, what.as_str())?)?;
-        Ok(RunEnd {
-            exit,
-            left,
-            notes,
-            savings: none_kept(savings),
-            unkept: Some(Text::from_string(what)),
-        })
+        self.notes.push(unkept_words(alloc, what.as_str())?)?;
+        keep_none(&mut self.savings);
+        mem::drop(self.unkept.replace(Text::from_string(what)));
+        Ok(())
     }
 }
 
@@ -125,18 +116,12 @@ fn unwritten_words(alloc: Global, file: &str) -> Result<String, AllocError>
     format!(in alloc; "the jobs of this run, since {file} may not be written")
 }
 
-// The same, of which none is kept.
-fn none_kept(savings: Option<Savings>) -> Option<Savings>
-    ensures { result ≡ option_map unwritten.none_kept savings }
+// Counts no job as kept.
+fn keep_none(savings: &mut Option<Savings>)
+    ensures { savings.new ≡ option_map unwritten.none_kept savings.old }
 {
-    match savings {
-        None => None,
-        Some(savings) => {
-            Some(Savings {
-                kept: Some(0),
-                ..savings
-            })
-        }
+    if let Some(savings) = savings {
+        savings.kept = Some(0);
     }
 }
 

@@ -1,5 +1,5 @@
 -- What ends the program where there is nothing to plan, and where there is.
-use Rattle.std.proofs.Common.{◌≡◌, ◌++◌, true, Bool, List, length, map, Option, None, Some, Result, Ok, Err, IfOk, subst, sym}
+use Rattle.std.proofs.Common.{◌≡◌, ◌++◌, true, false, Bool, List, length, map, Option, None, Some, Result, Ok, Err, IfOk, subst, sym}
 use Rattle.std.proofs.lemmas.Result.{IfOk-weaker}
 use Rattle.std.specs.declared.alloc.AllocError.{AllocError}
 use Rattle.clap.specs.Words.{Text}
@@ -23,16 +23,16 @@ use Rattle.run_given.specs.Caches.{is_twofold, record_of}
 use Rattle.plan_call.specs.Plans.{AreCounted, AreTextsOf, AreWaiting, IsEndOfPlan, IsPlanTold, IsPlanned, lost, paper_of, planned, plans, steps_waiting, stops}
 use Rattle.program_words.specs.RunWords.{RunWish}
 use Rattle.end_words.specs.RunEnds.{place_json}
-use Rattle.run_given.specs.Named.{IsAsked, IsNamedProcess, IsNoInputs, IsNoProcess, IsReady, no_inputs, no_process, no_record, twofold}
-use Rattle.end_words.specs.Stops.{IsStop}
+use Rattle.run_given.specs.Named.{IsAsked, IsReady, IsUnready, no_record}
+use Rattle.run_given.specs.Stops.{IsStop}
 use Rattle.end_words.specs.declared.exit.Exit.{Exit}
 use Rattle.end_words.specs.declared.exit.Exit.TheVariants as exits
 use Rattle.end_words.specs.declared.exit.Fault.TheVariants as faults
 use Rattle.end_words.specs.declared.exit.PlanTexts.{PlanTexts}
-use Rattle.end_words.specs.declared.given.Given.{Given}
+use Rattle.run_given.specs.declared.given.Given.{Given}
 use Rattle.end_words.specs.declared.run_end.RunEnd.{RunEnd}
-use Rattle.end_words.specs.declared.stop.Stop.{Stop}
-use Rattle.end_words.specs.declared.stop.Stop.TheVariants.{Early}
+use Rattle.run_given.specs.declared.stop.Stop.{Stop}
+use Rattle.run_given.specs.declared.stop.Stop.TheVariants.{Early}
 use Rattle.run_given.proofs.Stops.{ends_as, run_ends_so, stop_so}
 
 abbrev ends : (words : RunWish) (dot : Bool) (path : Text) → Exit → Option Text → Type 0
@@ -43,23 +43,11 @@ pub plan_without_folder : (words : RunWish) (dot : Bool) (path : Text) (answer :
     → IfOk answer (λ end. IsEndOfPlan words dot path end.exit)
 plan_without_folder words dot path answer is gone = ends_as (ends words dot path) _ answer lost is gone
 
-pub plan_without_one_meaning : (here : Text) (words : RunWish) (dot : Bool) (path : Text) (end : RunEnd)
-    → is_twofold words ≡ true → end.exit ≡ exits.Fault faults.Words → IsEndOfPlan words dot path end.exit
-plan_without_one_meaning here words dot path end twice is =
-    subst (λ (e : Exit). IsEndOfPlan words dot path e) (sym is) (stops here (twofold twice))
-
-pub plan_without_process : (here : Text) (words : RunWish) (dot : Bool) (path : Text) (stop : Stop) (answer : Result RunEnd AllocError)
-    → IsStop (IsNoProcess here words) stop → IfOk answer (λ end. stop ≡ Early end.exit) → IfOk answer (λ end. end.left ≡ None)
+pub plan_without_given : (here : Text) (words : RunWish) (dot : Bool) (path : Text) (stop : Stop) (answer : Result RunEnd AllocError)
+    → IsStop (IsUnready here words) stop → IfOk answer (λ end. stop ≡ Early end.exit) → IfOk answer (λ end. end.left ≡ None)
     → IfOk answer (λ end. IsEndOfPlan words dot path end.exit)
-plan_without_process here words dot path stop answer is same gone =
-    run_ends_so (ends words dot path) stop answer (stop_so _ _ (λ exit end. stops here (no_process end)) stop is) same gone
-
-pub plan_without_inputs : (here : Text) (words : RunWish) (dot : Bool) (path : Text) (process : Process) (stop : Stop) (answer : Result RunEnd AllocError)
-    → IsNamedProcess here words process → IsStop (IsNoInputs here words) stop
-    → IfOk answer (λ end. stop ≡ Early end.exit) → IfOk answer (λ end. end.left ≡ None)
-    → IfOk answer (λ end. IsEndOfPlan words dot path end.exit)
-plan_without_inputs here words dot path process stop answer named is same gone =
-    run_ends_so (ends words dot path) stop answer (stop_so _ _ (λ exit end. stops here (no_inputs process named end)) stop is) same gone
+plan_without_given here words dot path stop answer is same gone =
+    run_ends_so (ends words dot path) stop answer (stop_so _ _ (λ exit end. stops here end) stop is) same gone
 
 pub plan_without_record : (here : Text) (words : RunWish) (dot : Bool) (path : Text) (given : Given) (file : Text) (fault : RecordFault) (answer : Result RunEnd AllocError)
     → IsReady here words given → record_of words ≡ Some file
@@ -69,10 +57,10 @@ plan_without_record here words dot path given file fault answer ready named is g
     ends_as (ends words dot path) _ answer (stops here (no_record given file fault ready named)) is gone
 
 pub plans_so : (here : Text) (words : RunWish) (dot : Bool) (path : Text) (given : Given) (options : Options) (answer : Result RunEnd AllocError)
-    → IsReady here words given → IsAsked here words path options
+    → is_twofold words ≡ false → IsReady here words given → IsAsked here words path options
     → IfOk answer (λ end. IsPlanned given.process given.inputs options dot end.exit)
     → IfOk answer (λ end. IsEndOfPlan words dot path end.exit)
-plans_so here words dot path given options answer ready asked is = IfOk-weaker answer _ _ (λ end p. plans here given options ready asked p) is
+plans_so here words dot path given options answer one ready asked is = IfOk-weaker answer _ _ (λ end p. plans here given options one ready asked p) is
 
 -- an end with what was noted of it is as the exit
 pub noted_as : (IsEnd : Exit → Type 0) (told : Result Exit AllocError) (answer : Result RunEnd AllocError)

@@ -28,12 +28,13 @@ use Rattle.workflow_engine.specs.declared.planned.Planned.{Planned}
 use Rattle.program_words.specs.RunWords.{RunWish}
 use Rattle.program_words.specs.Visible.{visible}
 use Rattle.end_words.specs.RunEnds.{fault_exit, place_json}
+use Rattle.run_given.specs.Caches.{is_twofold}
 use Rattle.run_given.specs.Named.{IsAsked, IsReady, IsUnready}
 use Rattle.end_words.specs.declared.exit.Exit.{Exit}
 use Rattle.end_words.specs.declared.exit.Exit.TheVariants as exits
 use Rattle.end_words.specs.declared.exit.Fault.TheVariants as faults
 use Rattle.end_words.specs.declared.exit.PlanTexts.{PlanTexts}
-use Rattle.end_words.specs.declared.given.Given.{Given}
+use Rattle.run_given.specs.declared.given.Given.{Given}
 
 -- ---- what is said of a plan
 
@@ -104,9 +105,9 @@ pub data IsPlanned (process : Process) (inputs : Fields) (options : Options) (do
 
 -- ---- how the words of `plan` end the program
 
--- a plan of the named process on the named inputs, or nothing to plan
+-- a plan of the named process on the named inputs, of words that name no cache beside a record or an archive, or nothing to plan
 pub data IsEndOfPlan (words : RunWish) (dot : Bool) (path : Text) : Exit → Type 0 where
-  plans : {exit : Exit} (here : Text) (given : Given) (options : Options) → IsReady here words given → IsAsked here words path options →
+  plans : {exit : Exit} (here : Text) (given : Given) (options : Options) → is_twofold words ≡ false → IsReady here words given → IsAsked here words path options →
       IsPlanned given.process given.inputs options dot exit → IsEndOfPlan words dot path exit
   stops : {exit : Exit} (here : Text) → IsUnready here words exit → IsEndOfPlan words dot path exit
   -- the name of the current folder can't be found

@@ -1,25 +1,23 @@
 //! The plan of a run of the user's own process: what it would load, compute and not need.
-ghost use Rattle.std.specs.Prelude.{◌≡◌, None, Some, IfOk};
+ghost use Rattle.std.specs.Prelude.{◌≡◌, false, None, Some, IfOk};
 ghost use Rattle.run_rules.specs.Limits.{IsWithinLimits};
 ghost use Rattle.workflow_check.specs.Checked.{fault_in};
-ghost use Rattle.run_given.specs.Caches.{record_of as file_of_record};
+ghost use Rattle.run_given.specs.Caches.{is_twofold, record_of as file_of_record};
 ghost use Rattle.plan_call.specs.Plans.{IsEndOfPlan, IsPlanned};
 ghost use Rattle.program_words.specs.RunWords.{wish_of_run};
-ghost use Rattle.run_given.specs.Named.{IsNamedProcess, IsReady};
+ghost use Rattle.run_given.specs.Named.{IsReady};
 
 use crate::looks::Looks;
 use crate::plan_texts::exit_of_plan;
-use document_links::Process;
-use end_words::{Call, Exit, Fault, Given, Places, RunEnd, stopped_call, stopped_run};
+use end_notes::stopped_call;
+use end_words::RunEnd;
 use job_rows::{MemoryRecord, Record};
-use plain_data::{Items, Text};
 use process_machine::{Machine, World};
 use program_words::PlanWords;
 use record_program::Records;
 use run_core::Options;
 use run_given::{
-    file_of, here_of, inputs_of, is_twofold, places_of, process_of, record_of, without_folder,
-    without_record,
+    Call, Given, Places, here_of, places_of, ready_of, record_of, without_folder, without_record,
 };
 use run_setup::{machine_of, options_of};
 use run_watch::{KeptJobs, Traces, is_kept, kept_in, noted};
@@ -49,72 +47,20 @@ where
                 words: &words.run,
                 path,
             };
-            let end = end_of_call(rt, &call, words.dot);
-            mem::drop(here);
-            end
+            match ready_of(rt, &call) {
+                Ok(given) => {
+                    let end = over_record(rt, &given, &call, words.dot);
+                    mem::drop(given);
+                    end
+                }
+                Err(stop) => stopped_call(rt, stop, &call),
+            }
         }
         Err(error) => without_folder(rt.alloc(), &error),
     }
 }
 
-fn end_of_call<R: World + Input + Records>(
-    rt: &R,
-    call: &Call<'_>,
-    dot: bool,
-) -> Result<RunEnd, AllocError>
-where
-    R::File: Into<Stdio>,
-    ensures end { IfOk result (λ end. IsEndOfPlan (wish_of_run call.now.words.now) dot
-        call.now.path.now end.exit) }
-    ensures left { IfOk result (λ end. end.left ≡ None) }
-{
-    if is_twofold(call.words) {
-        return Ok(RunEnd::bare(rt.alloc(), Exit::Fault(Fault::Words)));
-    }
-    let mut files = Items::new(rt.alloc());
-    match process_of(rt, call, &mut files) {
-        Ok(process) => on_process(rt, process, files, call, dot),
-        Err(stop) => {
-            mem::drop(files);
-            stopped_call(rt, stop, call)
-        }
-    }
-}
-
-fn on_process<R: World + Input + Records>(
-    rt: &R,
-    process: Process,
-    files: Items<Text>,
-    call: &Call<'_>,
-    dot: bool,
-) -> Result<RunEnd, AllocError>
-where
-    R::File: Into<Stdio>,
-    requires { IsNamedProcess call.now.here.now (wish_of_run call.now.words.now) process }
-    ensures end { IfOk result (λ end. IsEndOfPlan (wish_of_run call.now.words.now) dot
-        call.now.path.now end.exit) }
-    ensures left { IfOk result (λ end. end.left ≡ None) }
-{
-    match inputs_of(rt, call) {
-        Ok(inputs) => {
-            let given = Given {
-                process,
-                inputs,
-                files,
-            };
-            let end = over_record(rt, &given, call, dot);
-            mem::drop(given);
-            end
-        }
-        Err(stop) => {
-            mem::drop(process);
-            mem::drop(files);
-            stopped_run(rt, stop, file_of(call.words.inputs))
-        }
-    }
-}
-
-/// Plans by the record that the words name, or by one without rows.
+/// Plans by the record that the words name if it is there, or by one without rows.
 fn over_record<R: World + Records>(
     rt: &R,
     given: &Given,
@@ -123,40 +69,16 @@ fn over_record<R: World + Records>(
 ) -> Result<RunEnd, AllocError>
 where
     R::File: Into<Stdio>,
-    requires { IsReady call.now.here.now (wish_of_run call.now.words.now) given.now }
+    requires ready { IsReady call.now.here.now (wish_of_run call.now.words.now) given.now }
+    requires one { is_twofold (wish_of_run call.now.words.now) ≡ false }
     ensures end { IfOk result (λ end. IsEndOfPlan (wish_of_run call.now.words.now) dot
         call.now.path.now end.exit) }
     ensures left { IfOk result (λ end. end.left ≡ None) }
 {
     match record_of(rt.alloc(), call.words)? {
-        None => in_memory(rt, given, call, dot),
-        Some(file) => {
-            let end = over_file(rt, given, call, file.as_str(), dot);
-            mem::drop(file);
-            end
-        }
+        Some(file) if is_kept(rt, file.as_str()) => in_file(rt, given, call, file.as_str(), dot),
+        _ => in_memory(rt, given, call, dot),
     }
-}
-
-fn over_file<R: World + Records>(
-    rt: &R,
-    given: &Given,
-    call: &Call<'_>,
-    file: &str,
-    dot: bool,
-) -> Result<RunEnd, AllocError>
-where
-    R::File: Into<Stdio>,
-    requires ready { IsReady call.now.here.now (wish_of_run call.now.words.now) given.now }
-    requires file { file_of_record (wish_of_run call.now.words.now) ≡ Some file.now }
-    ensures end { IfOk result (λ end. IsEndOfPlan (wish_of_run call.now.words.now) dot
-        call.now.path.now end.exit) }
-    ensures left { IfOk result (λ end. end.left ≡ None) }
-{
-    if is_kept(rt, file) {
-        return in_file(rt, given, call, file, dot);
-    }
-    in_memory(rt, given, call, dot)
 }
 
 fn in_memory<R: World>(
@@ -167,17 +89,15 @@ fn in_memory<R: World>(
 ) -> Result<RunEnd, AllocError>
 where
     R::File: Into<Stdio>,
-    requires { IsReady call.now.here.now (wish_of_run call.now.words.now) given.now }
+    requires ready { IsReady call.now.here.now (wish_of_run call.now.words.now) given.now }
+    requires one { is_twofold (wish_of_run call.now.words.now) ≡ false }
     ensures end { IfOk result (λ end. IsEndOfPlan (wish_of_run call.now.words.now) dot
         call.now.path.now end.exit) }
     ensures left { IfOk result (λ end. end.left ≡ None) }
 {
     let mut rows = MemoryRecord::new(rt.alloc(), None);
     let kept = KeptJobs::none(rt.alloc());
-    let end = by_rows(rt, given, call, &kept, &mut rows, dot);
-    mem::drop(kept);
-    mem::drop(rows);
-    end
+    by_rows(rt, given, call, &kept, &mut rows, dot)
 }
 
 fn in_file<R: World + Records>(
@@ -190,38 +110,17 @@ fn in_file<R: World + Records>(
 where
     R::File: Into<Stdio>,
     requires ready { IsReady call.now.here.now (wish_of_run call.now.words.now) given.now }
+    requires one { is_twofold (wish_of_run call.now.words.now) ≡ false }
     requires file { file_of_record (wish_of_run call.now.words.now) ≡ Some file.now }
     ensures end { IfOk result (λ end. IsEndOfPlan (wish_of_run call.now.words.now) dot
         call.now.path.now end.exit) }
     ensures left { IfOk result (λ end. end.left ≡ None) }
 {
     let kept = kept_in(rt, file, call.words.explain);
-    let end = beside_kept(rt, given, call, file, &kept, dot);
-    mem::drop(kept);
-    end
-}
-
-fn beside_kept<R: World + Records>(
-    rt: &R,
-    given: &Given,
-    call: &Call<'_>,
-    file: &str,
-    kept: &KeptJobs,
-    dot: bool,
-) -> Result<RunEnd, AllocError>
-where
-    R::File: Into<Stdio>,
-    requires ready { IsReady call.now.here.now (wish_of_run call.now.words.now) given.now }
-    requires file { file_of_record (wish_of_run call.now.words.now) ≡ Some file.now }
-    ensures end { IfOk result (λ end. IsEndOfPlan (wish_of_run call.now.words.now) dot
-        call.now.path.now end.exit) }
-    ensures left { IfOk result (λ end. end.left ≡ None) }
-{
     match rt.see_record(file) {
         Ok(mut rows) => {
-            let end = by_rows(rt, given, call, kept, &mut rows, dot);
-            let left = rt.close_record(rows);
-            mem::drop(left);
+            let end = by_rows(rt, given, call, &kept, &mut rows, dot);
+            mem::drop(rt.close_record(rows));
             end
         }
         Err(fault) => without_record(rt.alloc(), fault, file),
@@ -239,7 +138,8 @@ fn by_rows<R: World, K: Record>(
 ) -> Result<RunEnd, AllocError>
 where
     R::File: Into<Stdio>,
-    requires { IsReady call.now.here.now (wish_of_run call.now.words.now) given.now }
+    requires ready { IsReady call.now.here.now (wish_of_run call.now.words.now) given.now }
+    requires one { is_twofold (wish_of_run call.now.words.now) ≡ false }
     ensures end { IfOk result (λ end. IsEndOfPlan (wish_of_run call.now.words.now) dot
         call.now.path.now end.exit) }
     ensures left { IfOk result (λ end. end.left ≡ None) }

@@ -1,9 +1,8 @@
 -- How a run ends the program.
-use Rattle.std.proofs.Common.{◌≡◌, ◌∙◌, ap, refl, ℕ, true, [], Option, Some, None, subst, sym, Result, Ok, Err, IfOk}
+use Rattle.std.proofs.Common.{◌≡◌, ◌∙◌, ap, refl, ℕ, true, false, [], Option, Some, None, subst, sym, Result, Ok, Err, IfOk}
 use Rattle.std.proofs.lemmas.Result.{IfOk-weaker}
 use Rattle.std.specs.declared.alloc.AllocError.{AllocError}
 use Rattle.clap.specs.Words.{Text}
-use Rattle.document_links.specs.declared.process.Process.{Process}
 use Rattle.job_record.specs.declared.fault.RecordFault.{RecordFault}
 use Rattle.job_rows.specs.Memory.{MemoryState}
 use Rattle.job_rows.specs.declared.record.Record.{Ghosts as RowsOf}
@@ -16,17 +15,17 @@ use Rattle.run_given.specs.Caches.{is_twofold, record_of}
 use Rattle.end_words.specs.Leaving.{left_of}
 use Rattle.program_words.specs.RunWords.{IsBudget, RunWish}
 use Rattle.run_given.specs.Paths.{from_root}
-use Rattle.run_given.specs.Named.{IsAsked, IsNamedProcess, IsNoInputs, IsNoProcess, IsReady, no_inputs, no_process, no_record, twofold}
-use Rattle.run_call.specs.Runs.{IsEndOfRun, IsRanOver, IsRunExit, in_file, in_memory, lost, no_outdir, no_work, runs, stops, unready}
+use Rattle.run_given.specs.Named.{IsAsked, IsReady, IsUnready, no_record}
+use Rattle.run_call.specs.Runs.{IsEndLike, IsEndOfRun, IsRanOver, IsRunExit, in_file, in_memory, lost, no_outdir, no_work, runs, stops, unready}
 use Rattle.run_call.specs.Seen.{IsUnasked, Seen, new_memory, seen, seen_memory}
-use Rattle.end_words.specs.Stops.{IsStop}
+use Rattle.run_given.specs.Stops.{IsStop}
 use Rattle.end_words.specs.declared.exit.Exit.{Exit}
 use Rattle.end_words.specs.declared.exit.Exit.TheVariants as exits
 use Rattle.end_words.specs.declared.exit.Fault.TheVariants as faults
-use Rattle.end_words.specs.declared.given.Given.{Given}
+use Rattle.run_given.specs.declared.given.Given.{Given}
 use Rattle.end_words.specs.declared.run_end.RunEnd.{RunEnd}
-use Rattle.end_words.specs.declared.stop.Stop.{Stop}
-use Rattle.end_words.specs.declared.stop.Stop.TheVariants.{Early}
+use Rattle.run_given.specs.declared.stop.Stop.{Stop}
+use Rattle.run_given.specs.declared.stop.Stop.TheVariants.{Early}
 use Rattle.run_given.proofs.Stops.{stop_so, ends_as, run_ends_so}
 
 module _ {R K L : Type 0} (records : RecordsOf R K L) (rows : RowsOf K) (rt : R) where
@@ -35,25 +34,11 @@ module _ {R K L : Type 0} (records : RecordsOf R K L) (rows : RowsOf K) (rt : R)
       → IfOk answer (λ end. IsEndOfRun records rows rt words path end.exit end.left)
   without_folder words path answer is gone = ends_as (IsEndOfRun records rows rt words path) _ answer lost is gone
 
-  pub without_one_meaning : (here : Text) (words : RunWish) (path : Text) (end : RunEnd)
-      → is_twofold words ≡ true → end.exit ≡ exits.Fault faults.Words → end.left ≡ None
-      → IsEndOfRun records rows rt words path end.exit end.left
-  without_one_meaning here words path end twice is gone =
-      subst (λ (l : Option Text). IsEndOfRun records rows rt words path end.exit l) (sym gone)
-      (subst (λ (e : Exit). IsEndOfRun records rows rt words path e None) (sym is) (unready here (twofold twice)))
-
-  pub without_process : (here : Text) (words : RunWish) (path : Text) (stop : Stop) (answer : Result RunEnd AllocError)
-      → IsStop (IsNoProcess here words) stop → IfOk answer (λ end. stop ≡ Early end.exit) → IfOk answer (λ end. end.left ≡ None)
+  pub without_given : (here : Text) (words : RunWish) (path : Text) (stop : Stop) (answer : Result RunEnd AllocError)
+      → IsStop (IsUnready here words) stop → IfOk answer (λ end. stop ≡ Early end.exit) → IfOk answer (λ end. end.left ≡ None)
       → IfOk answer (λ end. IsEndOfRun records rows rt words path end.exit end.left)
-  without_process here words path stop answer is same gone =
-      run_ends_so (IsEndOfRun records rows rt words path) stop answer (stop_so _ _ (λ exit end. unready here (no_process end)) stop is) same gone
-
-  pub without_inputs : (here : Text) (words : RunWish) (path : Text) (process : Process) (stop : Stop) (answer : Result RunEnd AllocError)
-      → IsNamedProcess here words process → IsStop (IsNoInputs here words) stop
-      → IfOk answer (λ end. stop ≡ Early end.exit) → IfOk answer (λ end. end.left ≡ None)
-      → IfOk answer (λ end. IsEndOfRun records rows rt words path end.exit end.left)
-  without_inputs here words path process stop answer named is same gone =
-      run_ends_so (IsEndOfRun records rows rt words path) stop answer (stop_so _ _ (λ exit end. unready here (no_inputs process named end)) stop is) same gone
+  without_given here words path stop answer is same gone =
+      run_ends_so (IsEndOfRun records rows rt words path) stop answer (stop_so _ _ (λ exit end. unready here end) stop is) same gone
 
   pub without_record : (here : Text) (words : RunWish) (path : Text) (given : Given) (file : Text) (fault : RecordFault) (answer : Result RunEnd AllocError)
       → IsReady here words given → record_of words ≡ Some file
@@ -62,20 +47,28 @@ module _ {R K L : Type 0} (records : RecordsOf R K L) (rows : RowsOf K) (rt : R)
   without_record here words path given file fault answer ready named is gone =
       ends_as (IsEndOfRun records rows rt words path) _ answer (unready here (no_record given file fault ready named)) is gone
 
-  -- a run over the record of the file that is named
+  -- a run over the record of the file that is named, or over a copy of it
   pub over_file : (words : RunWish) (path file : Text) (budget : Option ℕ) (old new : K) (closed : L) (answer : Result RunEnd AllocError)
-      → record_of words ≡ Some file → IsBudget words.budget budget → records.opens rt file budget old → rows.log old ≡ []
+      → is_twofold words ≡ false → record_of words ≡ Some file → IsBudget words.budget budget → records.opens rt file budget old → rows.log old ≡ []
       → IfOk answer (λ end. IsRunExit words path (seen rows old) (seen rows new) end.exit end.left) → records.leaves new closed
       → IfOk answer (λ end. IsEndOfRun records rows rt words path end.exit end.left)
-  over_file words path file budget old new closed answer named allowed opened fresh is leaves =
-      IfOk-weaker answer _ _ (λ end e. in_file file budget old new closed named allowed opened fresh e leaves) is
+  over_file words path file budget old new closed answer one named allowed opened fresh is leaves =
+      IfOk-weaker answer _ _ (λ end e. in_file file budget old new closed one named allowed opened fresh e leaves) is
 
   -- or over a new one in memory
   pub over_memory : (words : RunWish) (path : Text) (budget : Option ℕ) (new : MemoryState) (answer : Result RunEnd AllocError)
-      → record_of words ≡ None → IsBudget words.budget budget
+      → is_twofold words ≡ false → record_of words ≡ None → IsBudget words.budget budget
       → IfOk answer (λ end. IsRunExit words path (seen_memory (new_memory budget)) (seen_memory new) end.exit end.left)
       → IfOk answer (λ end. IsEndOfRun records rows rt words path end.exit end.left)
-  over_memory words path budget new answer unnamed allowed is = IfOk-weaker answer _ _ (λ end e. in_memory budget new unnamed allowed e) is
+  over_memory words path budget new answer one unnamed allowed is = IfOk-weaker answer _ _ (λ end e. in_memory budget new one unnamed allowed e) is
+
+-- what is said beside an end changes nothing of it
+pub like_so : (IsEnd : Exit → Option Text → Type 0) (end answer : Result RunEnd AllocError)
+    → IfOk answer (λ told. IsEndLike end told.exit told.left) → IfOk end (λ e. IsEnd e.exit e.left) → IfOk answer (λ e. IsEnd e.exit e.left)
+like_so IsEnd end (Err error) like is = tt
+like_so IsEnd (Err error) (Ok told) like is = absurd like
+like_so IsEnd (Ok end) (Ok told) like is =
+    subst (λ (l : Option Text). IsEnd told.exit l) (sym like.1) (subst (λ (e : Exit). IsEnd e end.left) (sym like.0) is)
 
 -- a folder of the run is in the way, for some reason
 hindered : {Why : Type 0} (IsEnd : Exit → Option Text → Type 0) (exit_for : Why → Exit) (answer : Result RunEnd AllocError)

@@ -1,6 +1,6 @@
 -- How a run of a document on inputs ends the program.
 use Rattle.run_given.specs.Named.{IsReady, IsUnready, IsAsked}
-use Rattle.std.specs.Prelude.{◌≡◌, ℕ, true, List, [], Option, Some, None, Result, IfErr, ⊤}
+use Rattle.std.specs.Prelude.{◌≡◌, ℕ, true, false, List, [], Option, Some, None, Result, Ok, Err, IfErr, ⊤}
 use Rattle.clap.specs.Words.{Text}
 use Rattle.document_links.specs.declared.process.Process.{Process}
 use Rattle.proc_host.specs.declared.call.Entry.{Entry}
@@ -16,7 +16,7 @@ use Rattle.workflow_engine.specs.ByMap.{RunsByMap}
 use Rattle.process_machine.specs.declared.trouble.Hindrance.{Hindrance}
 use Rattle.run_facts.specs.Holding.{can_hold_files}
 use Rattle.run_facts.specs.declared.made_by.WorkTrouble.{WorkTrouble}
-use Rattle.run_given.specs.Caches.{record_of}
+use Rattle.run_given.specs.Caches.{is_twofold, record_of}
 use Rattle.end_words.specs.Leaving.{left_of}
 use Rattle.run_given.specs.Paths.{from_root}
 use Rattle.run_call.specs.Seen.{IsUnasked, Seen, new_memory, seen, seen_memory}
@@ -25,7 +25,9 @@ use Rattle.end_words.specs.RunEnds.{run_exit}
 use Rattle.end_words.specs.declared.exit.Exit.{Exit}
 use Rattle.end_words.specs.declared.exit.Exit.TheVariants as exits
 use Rattle.end_words.specs.declared.exit.Fault.TheVariants as faults
-use Rattle.end_words.specs.declared.given.Given.{Given}
+use Rattle.end_words.specs.declared.run_end.RunEnd.{RunEnd}
+use Rattle.std.specs.declared.alloc.AllocError.{AllocError}
+use Rattle.run_given.specs.declared.given.Given.{Given}
 use Rattle.program_words.specs.declared.telling.Telling.{Telling}
 use Rattle.program_words.specs.declared.telling.Telling.TheVariants.{Nothing, Lines, OneLine, Objects}
 use Rattle.end_words.specs.Told.{Held}
@@ -52,6 +54,11 @@ pub data IsStopExit (here : Text) (words : RunWish) : Exit → Type 0 where
 
 -- ---- how the words of `run` end the program
 
+-- this end is that of a run that came to one: what is said beside it may be more
+abbrev pub IsEndLike : Result RunEnd AllocError → Exit → (left : Option Text) → Type 0
+IsEndLike (Err error) exit left = ⊥
+IsEndLike (Ok end) exit left = (exit ≡ end.exit) × (left ≡ end.left)
+
 -- a run of the named process on the named inputs over this record, or none, and then the record was not asked; the work folder, where it stays
 pub data IsRunExit (words : RunWish) (path : Text) (old new : Seen) : Exit → (left : Option Text) → Type 0 where
   runs : {exit : Exit} (here : Text) (given : Given) (options : Options) → IsReady here words given →
@@ -61,13 +68,15 @@ pub data IsRunExit (words : RunWish) (path : Text) (old new : Seen) : Exit → (
 
 module _ {R K L : Type 0} (records : RecordsOf R K L) (rows : RowsOf K) (rt : R) where
   -- How the words of `run` end the program: over the record that was opened of the file that they name, of which nothing was asked before, and
-  -- which is closed then; or where they name none over a new one that is kept in memory alone; or before there is a record. The archives of the
-  -- record may have together as many bytes as the words say, if they say so.
+  -- which is closed then; or where they name none over a new one that is kept in memory alone; or before there is a record. Words that name a
+  -- cache beside a record or an archive lead to no run. The archives of the record may have together as many bytes as the words say, if they
+  -- say so.
   pub data IsEndOfRun (words : RunWish) (path : Text) : Exit → (left : Option Text) → Type 0 where
-    in_file : {exit : Exit} {left : Option Text} (file : Text) (budget : Option ℕ) (old new : K) (closed : L) → record_of words ≡ Some file →
-        IsBudget words.budget budget → records.opens rt file budget old →
-        rows.log old ≡ [] → IsRunExit words path (seen rows old) (seen rows new) exit left → records.leaves new closed → IsEndOfRun words path exit left
-    in_memory : {exit : Exit} {left : Option Text} (budget : Option ℕ) (new : MemoryState) → record_of words ≡ None → IsBudget words.budget budget →
+    in_file : {exit : Exit} {left : Option Text} (file : Text) (budget : Option ℕ) (old new : K) (closed : L) → is_twofold words ≡ false →
+        record_of words ≡ Some file → IsBudget words.budget budget → records.opens rt file budget old → rows.log old ≡ [] →
+        IsRunExit words path (seen rows old) (seen rows new) exit left → records.leaves new closed → IsEndOfRun words path exit left
+    in_memory : {exit : Exit} {left : Option Text} (budget : Option ℕ) (new : MemoryState) → is_twofold words ≡ false →
+        record_of words ≡ None → IsBudget words.budget budget →
         IsRunExit words path (seen_memory (new_memory budget)) (seen_memory new) exit left → IsEndOfRun words path exit left
     unready : {exit : Exit} (here : Text) → IsUnready here words exit → IsEndOfRun words path exit None
     -- the name of the current folder can't be found

@@ -1,30 +1,29 @@
 //! A run in its folders.
 ghost use Rattle.std.specs.Prelude.{IfOk, Ok};
 ghost use Rattle.program_words.specs.RunWords.{wish_of_run};
-ghost use Rattle.run_given.specs.Named.{AreNamed, IsReady};
-ghost use Rattle.run_call.specs.Runs.{IsRunExit, IsRunTold};
+ghost use Rattle.run_given.specs.Named.{IsReady};
+ghost use Rattle.run_call.specs.Runs.{IsEndLike, IsRunExit, IsRunTold};
 ghost use Rattle.run_call.specs.Seen.{seen};
 
-use crate::on_machine::with_options;
-use end_words::{Call, Given, Places, RunEnd};
+use crate::on_machine::on_machine;
+use end_words::RunEnd;
 use job_rows::Record;
-use plain_data::Text;
 use process_machine::World;
 use program_words::RunWords;
 use run_facts::KeyParts;
-use run_given::{leave, make_work, outdir_for, without_outdir, without_work};
-use run_setup::options_of;
+use run_given::{
+    Call, Given, Places, leave, make_work, outdir_for, places_of, without_outdir, without_work,
+};
 use std::alloc::AllocError;
 use std::io::Write;
 use std::process::Stdio;
 use std::{fs, mem};
 
 /// Makes the work folder, runs over a record, which had these jobs if they are wanted, and removes the folder if that is possible, unless it
-/// is to stay.
+/// is to stay. An output folder that was made, and into which nothing was delivered, is removed again.
 pub fn on_disk<R: World, K: Record, E: Write>(
     rt: &R,
     given: &Given,
-    places: &Places,
     call: &Call<'_>,
     recorded: &[KeyParts],
     rows: &mut K,
@@ -32,85 +31,57 @@ pub fn on_disk<R: World, K: Record, E: Write>(
 ) -> Result<RunEnd, AllocError>
 where
     R::File: Into<Stdio>,
-    requires ready { IsReady call.now.here.now (wish_of_run call.now.words.now) given.now }
-    requires named { AreNamed call.now.here.now (wish_of_run call.now.words.now) places.now }
+    requires { IsReady call.now.here.now (wish_of_run call.now.words.now) given.now }
     ensures told { IsRunTold call.now.words.now.telling (E.contents err.old) (E.contents err.new) }
     ensures end { IfOk result (λ end. IsRunExit (wish_of_run call.now.words.now) call.now.path.now
         (seen K.Record rows.old) (seen K.Record rows.new) end.exit end.left) }
 {
-    match make_work(rt, places) {
-        Ok(opened) => {
-            let end = in_work(rt, given, places, call, recorded, rows, err);
-            mem::drop(opened);
-            match end {
-                Ok(mut end) => {
-                    leave(rt, &places.work, end.left.is_some(), &mut end.notes);
-                    Ok(end)
-                }
-                Err(error) => {
-                    leave_unsaid(rt, &places.work, call.words);
-                    Err(error)
-                }
-            }
+    let places = places_of(rt.alloc(), call)?;
+    let opened = match make_work(rt, &places) {
+        Ok(opened) => opened,
+        Err(trouble) => {
+            let end = without_work(rt, trouble, &places.work);
+            mem::drop(places);
+            return end;
         }
-        Err(trouble) => without_work(rt, trouble, &places.work),
-    }
-}
-
-// If memory ran out at the end the work folder stays if that was asked for.
-fn leave_unsaid<R: World>(rt: &R, work: &Text, words: &RunWords) {
-    let stays = words.keep || words.keep_failed;
-    leave(rt, work, stays, &mut Vec::new(rt.alloc()));
-}
-
-/// Runs if the output folder can be used. One that was made, and into which nothing was delivered, is removed again.
-fn in_work<R: World, K: Record, E: Write>(
-    rt: &R,
-    given: &Given,
-    places: &Places,
-    call: &Call<'_>,
-    recorded: &[KeyParts],
-    rows: &mut K,
-    err: &mut E,
-) -> Result<RunEnd, AllocError>
-where
-    R::File: Into<Stdio>,
-    requires ready { IsReady call.now.here.now (wish_of_run call.now.words.now) given.now }
-    requires named { AreNamed call.now.here.now (wish_of_run call.now.words.now) places.now }
-    ensures told { IsRunTold call.now.words.now.telling (E.contents err.old) (E.contents err.new) }
-    ensures end { IfOk result (λ end. IsRunExit (wish_of_run call.now.words.now) call.now.path.now
-        (seen K.Record rows.old) (seen K.Record rows.new) end.exit end.left) }
-{
+    };
     match outdir_for(rt, &given.process, &places.outdir) {
         Ok(is_new) => {
-            let end = in_folders(rt, given, places, call, recorded, rows, err);
+            let end = on_machine(rt, given, &places, call, recorded, rows, err);
             if is_new {
                 let _removed = fs::remove_dir(rt, places.outdir.as_str());
             }
-            end
+            left_as_said(rt, opened, places, call.words, end)
         }
-        Err(trouble) => without_outdir(rt.alloc(), trouble, &places.outdir),
+        Err(trouble) => {
+            let end = without_outdir(rt.alloc(), trouble, &places.outdir);
+            left_as_said(rt, opened, places, call.words, end)
+        }
     }
 }
 
-fn in_folders<R: World, K: Record, E: Write>(
+/// Closes the work folder, and leaves it or removes it, as the end says. If memory ran out it stays if that was asked for.
+fn left_as_said<R: World>(
     rt: &R,
-    given: &Given,
-    places: &Places,
-    call: &Call<'_>,
-    recorded: &[KeyParts],
-    rows: &mut K,
-    err: &mut E,
+    opened: R::File,
+    places: Places,
+    words: &RunWords,
+    end: Result<RunEnd, AllocError>,
 ) -> Result<RunEnd, AllocError>
-where
-    R::File: Into<Stdio>,
-    requires ready { IsReady call.now.here.now (wish_of_run call.now.words.now) given.now }
-    requires named { AreNamed call.now.here.now (wish_of_run call.now.words.now) places.now }
-    ensures told { IsRunTold call.now.words.now.telling (E.contents err.old) (E.contents err.new) }
-    ensures end { IfOk result (λ end. IsRunExit (wish_of_run call.now.words.now) call.now.path.now
-        (seen K.Record rows.old) (seen K.Record rows.new) end.exit end.left) }
+    ensures { IfOk result (λ left. IsEndLike end left.exit left.left) }
 {
-    let options = options_of(rt.alloc(), places, call)?;
-    let end = with_options(rt, given, options, places, call.words, recorded, rows, err)?;
-    end.leaving(rt.alloc(), call.words, &places.work)
+    mem::drop(opened);
+    match end {
+        Ok(mut end) => {
+            leave(rt, &places.work, end.left.is_some(), &mut end.notes);
+            mem::drop(places);
+            Ok(end)
+        }
+        Err(error) => {
+            let stays = words.keep || words.keep_failed;
+            leave(rt, &places.work, stays, &mut Vec::new(rt.alloc()));
+            mem::drop(places);
+            Err(error)
+        }
+    }
 }

@@ -1,18 +1,21 @@
 //! A run over real processes and files, and a record.
 ghost use Rattle.std.specs.Prelude.{IfOk, None, Ok, [], ◌≡◌};
-ghost use Rattle.run_call.specs.Runs.{IsRanOver, IsRunTold};
+ghost use Rattle.program_words.specs.RunWords.{wish_of_run};
+ghost use Rattle.run_call.specs.Runs.{IsRanOver, IsRunExit, IsRunTold};
+ghost use Rattle.run_given.specs.Named.{AreNamed, IsReady};
 ghost use Rattle.run_rules.specs.Limits.{IsWithinLimits};
 ghost use Rattle.workflow_check.specs.Checked.{fault_in};
 ghost use Rattle.run_call.specs.Seen.{seen};
 
 use crate::watched::Watched;
-use end_words::{Exit, Given, Places, RunEnd, exit_of_run};
+use end_words::{Exit, RunEnd, exit_of_run};
 use job_rows::Record;
 use process_machine::{Deaf, Hear, Heard, Machine, World};
 use program_words::{Listen, RunWords, Savings, Silent, Teller, Telling};
 use run_core::Options;
 use run_facts::KeyParts;
-use run_setup::{guarded_machine, memory_of};
+use run_given::{Call, Given, Places};
+use run_setup::{guarded_machine, memory_of, options_of};
 use run_watch::{Jobs, Memory, Speaker, TakeNear, Voice, noted};
 use std::alloc::AllocError;
 use std::cell::RefCell;
@@ -23,31 +26,27 @@ use std::rt::Clock;
 use workflow_engine::run;
 
 /// Runs on a machine that works in these places, and asks a record of which nothing was asked. It had these jobs, if they are wanted.
-pub fn with_options<R: World, K: Record, E: Write>(
+pub fn on_machine<R: World, K: Record, E: Write>(
     rt: &R,
     given: &Given,
-    options: Options,
     places: &Places,
-    words: &RunWords,
+    call: &Call<'_>,
     recorded: &[KeyParts],
     rows: &mut K,
     err: &mut E,
 ) -> Result<RunEnd, AllocError>
 where
     R::File: Into<Stdio>,
-    requires accepted { fault_in given.now.process ≡ None }
-    requires limits { IsWithinLimits options }
-    ensures told { IsRunTold words.now.telling (E.contents err.old) (E.contents err.new) }
-    ensures exit { IfOk result (λ end. IsRanOver given.now.process given.now.inputs options
-        (seen K.Record rows.old) (seen K.Record rows.new) end.exit) }
+    requires ready { IsReady call.now.here.now (wish_of_run call.now.words.now) given.now }
+    requires named { AreNamed call.now.here.now (wish_of_run call.now.words.now) places.now }
+    ensures told { IsRunTold call.now.words.now.telling (E.contents err.old) (E.contents err.new) }
+    ensures end { IfOk result (λ end. IsRunExit (wish_of_run call.now.words.now) call.now.path.now
+        (seen K.Record rows.old) (seen K.Record rows.new) end.exit end.left) }
 {
-    match guarded_machine(rt, given, places, words) {
-        Ok(host) => told_of(rt, host, given, options, words, recorded, rows, err),
-        Err(error) => {
-            mem::drop(options);
-            Err(error)
-        }
-    }
+    let options = options_of(rt.alloc(), places, call)?;
+    let host = guarded_machine(rt, given, places, call.words)?;
+    let end = told_of(rt, host, given, options, call.words, recorded, rows, err)?;
+    end.leaving(rt.alloc(), call.words, &places.work)
 }
 
 /// Runs, and says when the jobs start and end. If each has lines, what the children write to standard error is shown too.

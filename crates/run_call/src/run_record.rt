@@ -1,46 +1,43 @@
 //! The record that a run asks.
-ghost use Rattle.std.specs.Prelude.{IfOk, None, Ok, Some, [], ◌≡◌};
-ghost use Rattle.run_given.specs.Caches.{record_of as file_of_record};
-ghost use Rattle.program_words.specs.RunWords.{IsBudget, wish_of_run};
-ghost use Rattle.run_given.specs.Named.{AreNamed, IsReady};
-ghost use Rattle.run_call.specs.Runs.{IsEndOfRun, IsRunTold};
+ghost use Rattle.std.specs.Prelude.{IfOk, None, false, Ok, Some, [], ◌≡◌};
+ghost use Rattle.run_given.specs.Caches.{is_twofold, record_of as file_of_record};
+ghost use Rattle.program_words.specs.RunWords.{wish_of_run};
+ghost use Rattle.run_given.specs.Named.{IsReady};
+ghost use Rattle.run_call.specs.Runs.{IsEndLike, IsEndOfRun, IsRunTold};
 
 use crate::folders::on_disk;
-use end_words::{Call, Given, Places, RunEnd};
+use end_words::RunEnd;
 use job_record::RecordFault;
 use job_rows::MemoryRecord;
 use process_machine::World;
 use program_words::{Telling, budget_of};
 use record_program::{Records, is_unwritable};
-use run_facts::KeyParts;
-use run_given::{make_cache, record_of, without_record};
+use run_given::{Call, Given, make_cache, record_of, without_record};
 use run_watch::{is_kept, kept_in};
-use std::alloc::AllocError;
+use std::alloc::{AllocError, Global};
 use std::io::Write;
 use std::mem;
 use std::process::Stdio;
-use workflow_engine::run;
 
 /// Runs over the record that the words name, itself or by a cache, or over one that is kept in memory alone and ends with the run.
 pub fn with_record<R: World + Records, E: Write>(
     rt: &R,
     given: &Given,
-    places: &Places,
     call: &Call<'_>,
     err: &mut E,
 ) -> Result<RunEnd, AllocError>
 where
     R::File: Into<Stdio>,
     requires ready { IsReady call.now.here.now (wish_of_run call.now.words.now) given.now }
-    requires named { AreNamed call.now.here.now (wish_of_run call.now.words.now) places.now }
+    requires one { is_twofold (wish_of_run call.now.words.now) ≡ false }
     ensures told { IsRunTold call.now.words.now.telling (E.contents err.old) (E.contents err.new) }
     ensures end { IfOk result (λ end. IsEndOfRun R.Records R.Kept.Record rt.now
         (wish_of_run call.now.words.now) call.now.path.now end.exit end.left) }
 {
     match record_of(rt.alloc(), call.words)? {
-        None => in_memory(rt, given, places, call, err),
+        None => in_memory(rt, given, call, err),
         Some(file) => {
-            let end = in_file(rt, given, places, call, file.as_str(), err);
+            let end = in_file(rt, given, call, file.as_str(), err);
             mem::drop(file);
             end
         }
@@ -50,31 +47,29 @@ where
 fn in_memory<R: World + Records, E: Write>(
     rt: &R,
     given: &Given,
-    places: &Places,
     call: &Call<'_>,
     err: &mut E,
 ) -> Result<RunEnd, AllocError>
 where
     R::File: Into<Stdio>,
     requires ready { IsReady call.now.here.now (wish_of_run call.now.words.now) given.now }
-    requires named { AreNamed call.now.here.now (wish_of_run call.now.words.now) places.now }
+    requires one { is_twofold (wish_of_run call.now.words.now) ≡ false }
     requires unnamed { file_of_record (wish_of_run call.now.words.now) ≡ None }
     ensures told { IsRunTold call.now.words.now.telling (E.contents err.old) (E.contents err.new) }
     ensures end { IfOk result (λ end. IsEndOfRun R.Records R.Kept.Record rt.now
         (wish_of_run call.now.words.now) call.now.path.now end.exit end.left) }
 {
     let mut rows = MemoryRecord::new(rt.alloc(), budget_of(call.words));
-    let end = on_disk(rt, given, places, call, &[], &mut rows, err);
+    let end = on_disk(rt, given, call, &[], &mut rows, err);
     mem::drop(rows);
     end
 }
 
-/// Runs over the record of the file that is named. What it has is read first, if it is to be said how jobs differ from that: to read a file that
-/// is held would let it go.
+/// Runs over the record of the file that is named, and holds it until the run has ended. What it has is read first, if it is to be said how jobs
+/// differ from that: to read a file that is held would let it go.
 fn in_file<R: World + Records, E: Write>(
     rt: &R,
     given: &Given,
-    places: &Places,
     call: &Call<'_>,
     file: &str,
     err: &mut E,
@@ -82,7 +77,7 @@ fn in_file<R: World + Records, E: Write>(
 where
     R::File: Into<Stdio>,
     requires ready { IsReady call.now.here.now (wish_of_run call.now.words.now) given.now }
-    requires named { AreNamed call.now.here.now (wish_of_run call.now.words.now) places.now }
+    requires one { is_twofold (wish_of_run call.now.words.now) ≡ false }
     requires file { file_of_record (wish_of_run call.now.words.now) ≡ Some file.now }
     ensures told { IsRunTold call.now.words.now.telling (E.contents err.old) (E.contents err.new) }
     ensures end { IfOk result (λ end. IsEndOfRun R.Records R.Kept.Record rt.now
@@ -91,104 +86,63 @@ where
     make_cache(rt, call.words);
     let tells = matches!(call.words.telling, Telling::Lines);
     let recorded = kept_in(rt, file, tells && is_kept(rt, file));
-    let end = beside_recorded(
-        rt,
-        given,
-        places,
-        call,
-        file,
-        recorded.parts.as_slice(),
-        err,
-    );
-    mem::drop(recorded);
-    end
-}
-
-fn beside_recorded<R: World + Records, E: Write>(
-    rt: &R,
-    given: &Given,
-    places: &Places,
-    call: &Call<'_>,
-    file: &str,
-    recorded: &[KeyParts],
-    err: &mut E,
-) -> Result<RunEnd, AllocError>
-where
-    R::File: Into<Stdio>,
-    requires ready { IsReady call.now.here.now (wish_of_run call.now.words.now) given.now }
-    requires named { AreNamed call.now.here.now (wish_of_run call.now.words.now) places.now }
-    requires file { file_of_record (wish_of_run call.now.words.now) ≡ Some file.now }
-    ensures told { IsRunTold call.now.words.now.telling (E.contents err.old) (E.contents err.new) }
-    ensures end { IfOk result (λ end. IsEndOfRun R.Records R.Kept.Record rt.now
-        (wish_of_run call.now.words.now) call.now.path.now end.exit end.left) }
-{
-    let budget = budget_of(call.words);
-    match rt.open_record(file, budget) {
-        Ok(rows) => by_record(rt, given, places, call, file, recorded, budget, rows, err),
-        Err(fault) => in_copy(rt, given, places, call, file, recorded, budget, fault, err),
+    match opened_of(rt, file, budget_of(call.words)) {
+        Ok((mut rows, is_copy)) => {
+            let jobs = recorded.parts.as_slice();
+            let end = on_disk(rt, given, call, jobs, &mut rows, err);
+            mem::drop(rt.close_record(rows));
+            kept_unless(rt.alloc(), is_copy, file, end)
+        }
+        Err(fault) => without_record(rt.alloc(), fault, file),
     }
 }
 
-/// Runs over a copy of a record that may be read and not written, and keeps nothing. A budget wants the record itself.
-fn in_copy<R: World + Records, E: Write>(
+/// Opens the record of a file, or a copy of it if that may be read and not written, and says whether it is a copy. A budget wants the record
+/// itself.
+fn opened_of<R: Records>(
     rt: &R,
-    given: &Given,
-    places: &Places,
-    call: &Call<'_>,
     file: &str,
-    recorded: &[KeyParts],
+    budget: Option<u64>,
+) -> Result<(R::Kept, bool), RecordFault>
+    ensures opened { IfOk result (λ opened. R.opens rt.now file.now budget opened.0) }
+    ensures unasked { IfOk result (λ opened. R.Kept.log opened.0 ≡ []) }
+{
+    match rt.open_record(file, budget) {
+        Ok(rows) => Ok((rows, false)),
+        Err(fault) => copy_of(rt, file, budget, fault),
+    }
+}
+
+fn copy_of<R: Records>(
+    rt: &R,
+    file: &str,
     budget: Option<u64>,
     fault: RecordFault,
-    err: &mut E,
-) -> Result<RunEnd, AllocError>
-where
-    R::File: Into<Stdio>,
-    requires ready { IsReady call.now.here.now (wish_of_run call.now.words.now) given.now }
-    requires named { AreNamed call.now.here.now (wish_of_run call.now.words.now) places.now }
-    requires file { file_of_record (wish_of_run call.now.words.now) ≡ Some file.now }
-    requires budget { IsBudget (wish_of_run call.now.words.now).budget budget }
-    ensures told { IsRunTold call.now.words.now.telling (E.contents err.old) (E.contents err.new) }
-    ensures end { IfOk result (λ end. IsEndOfRun R.Records R.Kept.Record rt.now
-        (wish_of_run call.now.words.now) call.now.path.now end.exit end.left) }
+) -> Result<(R::Kept, bool), RecordFault>
+    ensures opened { IfOk result (λ opened. R.opens rt.now file.now budget opened.0) }
+    ensures unasked { IfOk result (λ opened. R.Kept.log opened.0 ≡ []) }
 {
     if budget.is_some() || !is_unwritable(&fault) {
-        return without_record(rt.alloc(), fault, file);
+        return Err(fault);
     }
     match rt.see_record(file) {
-        Ok(rows) => {
-            let end = by_record(rt, given, places, call, file, recorded, None, rows, err)?;
-            end.unwritten(rt.alloc(), file)
-        }
-        Err(_) => without_record(rt.alloc(), fault, file),
+        Ok(rows) => Ok((rows, true)),
+        Err(_) => Err(fault),
     }
 }
 
-/// Holds a record that was opened of the file until the run has ended.
-fn by_record<R: World + Records, E: Write>(
-    rt: &R,
-    given: &Given,
-    places: &Places,
-    call: &Call<'_>,
+/// Adds that nothing of a run is kept, if it asked a copy of its record.
+fn kept_unless(
+    alloc: Global,
+    is_copy: bool,
     file: &str,
-    recorded: &[KeyParts],
-    budget: Option<u64>,
-    mut rows: R::Kept,
-    err: &mut E,
+    end: Result<RunEnd, AllocError>,
 ) -> Result<RunEnd, AllocError>
-where
-    R::File: Into<Stdio>,
-    requires ready { IsReady call.now.here.now (wish_of_run call.now.words.now) given.now }
-    requires named { AreNamed call.now.here.now (wish_of_run call.now.words.now) places.now }
-    requires file { file_of_record (wish_of_run call.now.words.now) ≡ Some file.now }
-    requires budget { IsBudget (wish_of_run call.now.words.now).budget budget }
-    requires opened { R.opens rt.now file.now budget rows }
-    requires unasked { R.Kept.log rows ≡ [] }
-    ensures told { IsRunTold call.now.words.now.telling (E.contents err.old) (E.contents err.new) }
-    ensures end { IfOk result (λ end. IsEndOfRun R.Records R.Kept.Record rt.now
-        (wish_of_run call.now.words.now) call.now.path.now end.exit end.left) }
+    ensures { IfOk result (λ told. IsEndLike end told.exit told.left) }
 {
-    let end = on_disk(rt, given, places, call, recorded, &mut rows, err);
-    let left = rt.close_record(rows);
-    mem::drop(left);
-    end
+    let end = end?;
+    if is_copy {
+        return end.unwritten(alloc, file);
+    }
+    Ok(end)
 }

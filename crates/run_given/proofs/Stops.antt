@@ -19,15 +19,15 @@ use Rattle.program_words.specs.RunWords.{RunWish}
 use Rattle.run_given.specs.Paths.{IsAt}
 use Rattle.run_given.specs.Named.{IsInputsText, IsInputsUnread, IsInputsUrl, IsNamedInputs, IsNamedProcess, IsNoInputs, IsNoProcess, IsRead, document_unread, document_wrong, inputs_unread, inputs_wrong}
 use Rattle.run_given.specs.Sources.{IsAbsent, IsAccepted, IsDocumentStop, IsInputs, IsInputsStop, IsOfDocuments, bad_document, no_object, too_many}
-use Rattle.end_words.specs.Stops.{IsStop, IsUnread}
+use Rattle.run_given.specs.Stops.{IsStop, IsUnread}
 use Rattle.end_words.specs.declared.exit.Exit.{Exit}
 use Rattle.end_words.specs.declared.exit.Exit.TheVariants as exits
 use Rattle.end_words.specs.declared.exit.Fault.TheVariants as faults
 use Rattle.end_words.specs.declared.exit.Refusal.TheVariants as refusals
 use Rattle.document_links.specs.declared.fault.LinkFault.TheVariants as link_faults
 use Rattle.end_words.specs.declared.run_end.RunEnd.{RunEnd}
-use Rattle.end_words.specs.declared.stop.Stop.{Stop}
-use Rattle.end_words.specs.declared.stop.Stop.TheVariants.{Early, OutOfMemory}
+use Rattle.run_given.specs.declared.stop.Stop.{Stop}
+use Rattle.run_given.specs.declared.stop.Stop.TheVariants.{Early, OutOfMemory}
 
 pub wrong_document : (bytes : List ℕ) (base : Parts) (docs : Documents) (fault : LinkFault) (stop : Stop)
     → IsRefused (link_errors.Refused fault) bytes base docs → IsOfDocuments fault

@@ -3,3 +3,4 @@ pub mod Held
 pub mod Named
 pub mod Paths
 pub mod Sources
+pub mod Stops

@@ -11,12 +11,12 @@ use Rattle.run_given.specs.Caches.{archive_of, is_twofold, record_of}
 use Rattle.run_given.specs.Paths.{IsAt, from_root}
 use Rattle.program_words.specs.RunWords.{IsChosen, RunWish}
 use Rattle.run_given.specs.Sources.{IsAccepted, IsDocumentStop, IsInputs, IsInputsStop}
-use Rattle.end_words.specs.Stops.{IsUnread, most_bytes}
+use Rattle.run_given.specs.Stops.{IsUnread, most_bytes}
 use Rattle.end_words.specs.declared.exit.Exit.{Exit}
 use Rattle.end_words.specs.declared.exit.Exit.TheVariants as exits
 use Rattle.end_words.specs.declared.exit.Fault.TheVariants as faults
-use Rattle.end_words.specs.declared.given.Given.{Given}
-use Rattle.end_words.specs.declared.given.Places.{Places}
+use Rattle.run_given.specs.declared.given.Given.{Given}
+use Rattle.run_given.specs.declared.given.Places.{Places}
 
 -- ---- what the words of `run` name, for a program that is called in the folder `here`
 
@@ -64,12 +64,16 @@ pub data IsNoInputs (here : Text) (words : RunWish) : Exit → Type 0 where
   inputs_wrong : {exit : Exit} (bytes : List ℕ) (base : Parts) → IsInputsText words.inputs bytes → IsInputsUrl here words base →
       IsInputsStop bytes base exit → IsNoInputs here words exit
 
+-- there is no such process, or else there are no such inputs
+pub data IsNotGiven (here : Text) (words : RunWish) : Exit → Type 0 where
+  no_process : {exit : Exit} → IsNoProcess here words exit → IsNotGiven here words exit
+  no_inputs : {exit : Exit} (process : Process) → IsNamedProcess here words process → IsNoInputs here words exit → IsNotGiven here words exit
+
 -- there is nothing to run or to plan: a cache is named beside a record or an archive; else the document is looked at first, then the
 -- inputs, then the record is opened where one is named
 pub data IsUnready (here : Text) (words : RunWish) : Exit → Type 0 where
   twofold : is_twofold words ≡ true → IsUnready here words (exits.Fault faults.Words)
-  no_process : {exit : Exit} → IsNoProcess here words exit → IsUnready here words exit
-  no_inputs : {exit : Exit} (process : Process) → IsNamedProcess here words process → IsNoInputs here words exit → IsUnready here words exit
+  not_given : {exit : Exit} → IsNotGiven here words exit → IsUnready here words exit
   no_record : (given : Given) (file : Text) (fault : RecordFault) → IsReady here words given → record_of words ≡ Some file →
       IsUnready here words (exits.Fault (faults.Unopened file fault))
 

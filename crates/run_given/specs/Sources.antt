@@ -19,7 +19,7 @@ use Rattle.cwl_value.specs.declared.refusal.ValueRefusal.{ValueRefusal}
 use Rattle.cwl_value.specs.declared.value.Value.{Value}
 use Rattle.cwl_value.specs.declared.value.Value.TheVariants as values
 use Rattle.job_graph.specs.Words.{Fields}
-use Rattle.end_words.specs.Stops.{IsUnread}
+use Rattle.run_given.specs.Stops.{IsUnread}
 use Rattle.end_words.specs.declared.exit.Exit.{Exit}
 use Rattle.end_words.specs.declared.exit.Exit.TheVariants as exits
 use Rattle.end_words.specs.declared.exit.Fault.TheVariants as faults

@@ -2,10 +2,12 @@
 ghost use Rattle.std.specs.Prelude.{◌≡◌, IfOk, IfErr};
 ghost use Rattle.document_links.specs.Documents.{IsLinked, IsRefused};
 ghost use Rattle.run_given.specs.Sources.{IsAbsent, IsAccepted, IsDocumentStop};
-ghost use Rattle.end_words.specs.Stops.{IsCause, IsStop};
+ghost use Rattle.run_given.specs.Stops.{IsCause, IsStop};
 
+use crate::reading::sound;
+use crate::stop::{Stop, unread_for};
 use document_links::{Docs, Document, LinkError, LinkFault, MOST_PROCESSES, Process, read_process};
-use end_words::{Exit, Refusal, Stop, Unreadable, sound, unread_for};
+use end_words::{Exit, Refusal, Unreadable};
 use file_values::{FileError, location_to_path};
 use plain_data::{Keyed, Text};
 use std::alloc::Global;

@@ -5,8 +5,8 @@ ghost use Rattle.run_given.specs.Held as spec;
 ghost use Rattle.run_given.specs.Caches.{record_of as file_of_record};
 
 use crate::caches::record_of;
+use crate::given::Given;
 use crate::standard_input::file_of;
-use end_words::Given;
 use plain_data::{Items, Text};
 use process_machine::World;
 use program_words::RunWords;

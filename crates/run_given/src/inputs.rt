@@ -3,10 +3,11 @@ ghost use Rattle.std.specs.Prelude.{◌≡◌, ◌≢◌, ℕ, List, IfOk, IfErr
 ghost use Rattle.cwl_value.specs.Texts.{ReadsAs};
 ghost use Rattle.cwl_value.specs.declared.refusal.ValueRefusal.TheVariants.{OutOfMemory};
 ghost use Rattle.run_given.specs.Sources.{IsInputs, IsInputsStop};
-ghost use Rattle.end_words.specs.Stops.{IsStop};
+ghost use Rattle.run_given.specs.Stops.{IsStop};
 
+use crate::stop::Stop;
 use cwl_value::{Value, ValueRefusal, read_value};
-use end_words::{Exit, Fault, Refusal, Stop};
+use end_words::{Exit, Fault, Refusal};
 use file_values::{FileError, resolve};
 use plain_data::Keyed;
 use std::alloc::Global;

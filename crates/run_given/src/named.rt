@@ -6,18 +6,20 @@ ghost use Rattle.run_given.specs.Paths.{from_root as path_from_root};
 ghost use Rattle.program_words.specs.RunWords.{wish_of_run};
 ghost use Rattle.run_given.specs.Named.{AreNamed, IsInputsText, IsNamedInputs, IsNamedProcess, IsNoInputs, IsNoProcess, IsRead};
 ghost use Rattle.run_given.specs.Sources.{IsAccepted, IsDocumentStop};
-ghost use Rattle.end_words.specs.Stops.{IsStop, IsUnread};
+ghost use Rattle.run_given.specs.Stops.{IsStop, IsUnread};
 
 use crate::caches::archive_of;
 use crate::documents::accepted_of;
+use crate::given::{Call, Places};
 use crate::inputs::inputs_at;
 use crate::paths::{base_of, from_root};
+use crate::reading::bytes_of_file;
+use crate::search::{Reached, reached_from};
 use crate::standard_input::bytes_of;
+use crate::stop::{Stop, unread};
 use cwl_value::Value;
 use document_links::{Document, Process};
-use end_words::{
-    Call, Exit, Fault, Places, Reached, RunEnd, Stop, bytes_of_file, reached_from, unread,
-};
+use end_words::{Exit, Fault, RunEnd};
 use job_record::RecordFault;
 use plain_data::{Items, Keyed, Text};
 use process_machine::World;

@@ -3,9 +3,9 @@ ghost use Rattle.std.specs.Prelude.{◌≡◌, None, Ok, if◌then◌else◌, []
 ghost use Rattle.file_values.specs.Location.{is_absolute, location_of};
 ghost use Rattle.url.specs.Parser.{parse_url};
 ghost use Rattle.run_given.specs.Paths as spec;
-ghost use Rattle.end_words.specs.declared.stop.Stop.TheVariants.{OutOfMemory};
+ghost use Rattle.run_given.specs.declared.stop.Stop.TheVariants.{OutOfMemory};
 
-use end_words::Stop;
+use crate::stop::Stop;
 use file_values::path_to_location;
 use plain_data::Text;
 use std::alloc::{AllocError, Global};

@@ -1,9 +1,9 @@
 //! Texts that are taken from standard input if `-` stands for it.
 ghost use Rattle.std.specs.Prelude.{◌≡◌, ◌≤◌, length, IfOk, IfErr, option_map};
 ghost use Rattle.run_given.specs.Held as spec;
-ghost use Rattle.end_words.specs.Stops.{IsTrouble, most_bytes};
+ghost use Rattle.run_given.specs.Stops.{IsTrouble, most_bytes};
 
-use end_words::{NoBytes, bytes_of_file, bytes_of_input};
+use crate::reading::{NoBytes, bytes_of_file, bytes_of_input};
 use std::rt::Files;
 
 /// The name that stands for standard input.

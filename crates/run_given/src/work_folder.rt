@@ -1,7 +1,9 @@
 //! The mark of a work folder, and what it says if the folder is in the way.
 ghost use Rattle.std.specs.Prelude.{◌≡◌, None, IfOk};
 
-use end_words::{Exit, Fault, Places, RunEnd, bytes_of_file};
+use crate::given::Places;
+use crate::reading::bytes_of_file;
+use end_words::{Exit, Fault, RunEnd};
 use plain_data::Text;
 use process_machine::{World, remove_folder};
 use run_facts::{KEPT, WorkTrouble, mark_of, number_in, trouble_of};

@@ -6,14 +6,13 @@ ghost use Rattle.run_rules.specs.Limits.{IsWithinLimits};
 ghost use Rattle.program_words.specs.Launcher.{launcher_in};
 ghost use Rattle.run_given.specs.Held.{IsHeld};
 
-use end_words::{Call, Given, Places};
 use plain_data::Text;
 use process_machine::{Machine, World};
 use program_words::{
     RunWords, Telling, launcher_of, load_base_of, load_rate_of, retries_of, slots_of,
 };
 use run_facts::KeyParts;
-use run_given::{file_of, held_by, keeps_archive, remembers};
+use run_given::{Call, Given, Places, file_of, held_by, keeps_archive, remembers};
 use run_rules::Options;
 use run_watch::Memory;
 use std::alloc::{AllocError, Global};

@@ -3,9 +3,10 @@ ghost use Rattle.std.specs.Prelude.{◌≡◌, None, Ok, IfOk};
 
 use crate::notes::{notes_on, unkept_on};
 use crate::traces::Traces;
-use end_words::{Exit, Given, RunEnd};
+use end_words::{Exit, RunEnd};
 use process_machine::{Machine, World};
 use program_words::Savings;
+use run_given::Given;
 use std::alloc::AllocError;
 
 /// Adds what is said of a failure, and of a success.

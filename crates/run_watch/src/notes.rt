@@ -4,12 +4,14 @@ use crate::traces::Traces;
 use collected_outputs::OutputFault;
 use command_line::{BuildFault, Launch};
 use cwl_process::Tool;
+use end_notes::{
+    add_ending, add_listing, add_mismatch, add_obstacle, add_output, add_remarks, add_start,
+    add_uncopied, misfit_lines, missing_lines, secondary_lines, step_lines, tool_lines, tool_of,
+};
 use end_words::{
-    Counted, Ended, Exit, Fault, Given, Named, add_ending, add_listing, add_mismatch, add_obstacle,
-    add_output, add_over_budget, add_remarks, add_start, add_tally, add_uncopied, add_undiscarded,
-    add_unput, add_unstored, add_untouched, ended_with, failed_jobs, failed_too, misfit_lines,
-    missing_lines, more_words, other_failures, secondary_lines, step_lines, tally_of, tool_lines,
-    tool_of, unkept_for_room,
+    Counted, Ended, Exit, Fault, Named, add_over_budget, add_tally, add_undiscarded, add_unput,
+    add_unstored, add_untouched, ended_with, failed_jobs, failed_too, more_words, other_failures,
+    tally_of, unkept_for_room,
 };
 use job_graph::Cause as NoValue;
 use plain_data::Text;
@@ -17,6 +19,7 @@ use proc_host::{ChildEnd, Entry, HostFault};
 use process_machine::{Machine, World, last_lines, messages_file};
 use program_words::{ending, line_of};
 use run_facts::{end_of, launch_with, listing_of, moves_in};
+use run_given::Given;
 use run_rules::{Cause, CollectCause};
 use staging::Found;
 use std::alloc::{AllocError, Global};

@@ -2,7 +2,8 @@
 
 use crate::memory::Memory;
 use cwl_value::JobPlace;
-use end_words::{Ended, Misses, Remembered, place_in};
+use end_notes::Remembered;
+use end_words::{Ended, Misses, place_in};
 use job_rows::Row;
 use plain_data::{Keyed, Text};
 use proc_host::HostFault;

@@ -11,7 +11,6 @@ use Rattle.command_line.specs.declared.fault.BuildFault.{BuildFault}
 use Rattle.command_line.specs.declared.launch.Launch.{Launch}
 use Rattle.command_line.specs.declared.runtime.Runtime.{Runtime}
 use Rattle.cwl_process.specs.declared.tool.Tool.{Tool}
-use Rattle.document_links.specs.declared.process.Process.{Process}
 use Rattle.job_graph.specs.Words.{Fields}
 use Rattle.job_graph.specs.declared.cause.Cause.TheVariants as equations
 use Rattle.run_rules.specs.Folders.{job_folder, out_folder, tmp_folder}
@@ -19,17 +18,17 @@ use Rattle.run_rules.specs.declared.outcome.Cause.TheVariants as causes
 use Rattle.program_words.specs.RunWords.{RunWish}
 use Rattle.program_words.specs.ShellWords.{IsLineOf}
 use Rattle.program_words.specs.Visible.{visible}
-use Rattle.end_words.specs.Stops.{IsStop}
+use Rattle.run_given.specs.Stops.{IsStop}
 use Rattle.end_words.specs.declared.exit.Exit.{Exit}
 use Rattle.end_words.specs.declared.exit.Exit.TheVariants as exits
 use Rattle.end_words.specs.declared.exit.Fault.TheVariants as faults
-use Rattle.end_words.specs.declared.given.Given.{Given}
+use Rattle.run_given.specs.declared.given.Given.{Given}
 use Rattle.end_words.specs.declared.run_end.RunEnd.{RunEnd}
-use Rattle.end_words.specs.declared.stop.Stop.{Stop}
-use Rattle.end_words.specs.declared.stop.Stop.TheVariants.{Early}
+use Rattle.run_given.specs.declared.stop.Stop.{Stop}
+use Rattle.run_given.specs.declared.stop.Stop.TheVariants.{Early}
 use Rattle.run_given.specs.Paths.{from_root}
-use Rattle.run_given.specs.Named.{IsNamedProcess, IsNoInputs, IsNoProcess, IsReady}
-use Rattle.show_call.specs.Showings.{IsAskedShown, IsCommandEnd, IsEndOfShowing, IsShown, command, failed, first_runtime, line_below, lost, misfit, misfit_of, no_command, no_inputs, no_process, shown, shows}
+use Rattle.run_given.specs.Named.{IsNotGiven, IsReady}
+use Rattle.show_call.specs.Showings.{IsAskedShown, IsCommandEnd, IsEndOfShowing, IsShown, command, failed, first_runtime, line_below, lost, misfit, misfit_of, no_command, not_given, shown, shows}
 use Rattle.run_given.proofs.Stops.{ends_as, run_ends_so, stop_so}
 
 abbrev ends : (words : RunWish) (path : Text) → Exit → Option Text → Type 0
@@ -40,18 +39,11 @@ pub shown_without_folder : (words : RunWish) (path : Text) (answer : Result RunE
     → IfOk answer (λ end. IsEndOfShowing words path end.exit)
 shown_without_folder words path answer is gone = ends_as (ends words path) _ answer lost is gone
 
-pub shown_without_process : (here : Text) (words : RunWish) (path : Text) (stop : Stop) (answer : Result RunEnd AllocError)
-    → IsStop (IsNoProcess here words) stop → IfOk answer (λ end. stop ≡ Early end.exit) → IfOk answer (λ end. end.left ≡ None)
+pub shown_without_given : (here : Text) (words : RunWish) (path : Text) (stop : Stop) (answer : Result RunEnd AllocError)
+    → IsStop (IsNotGiven here words) stop → IfOk answer (λ end. stop ≡ Early end.exit) → IfOk answer (λ end. end.left ≡ None)
     → IfOk answer (λ end. IsEndOfShowing words path end.exit)
-shown_without_process here words path stop answer is same gone =
-    run_ends_so (ends words path) stop answer (stop_so _ _ (λ exit end. no_process here end) stop is) same gone
-
-pub shown_without_inputs : (here : Text) (words : RunWish) (path : Text) (process : Process) (stop : Stop) (answer : Result RunEnd AllocError)
-    → IsNamedProcess here words process → IsStop (IsNoInputs here words) stop
-    → IfOk answer (λ end. stop ≡ Early end.exit) → IfOk answer (λ end. end.left ≡ None)
-    → IfOk answer (λ end. IsEndOfShowing words path end.exit)
-shown_without_inputs here words path process stop answer named is same gone =
-    run_ends_so (ends words path) stop answer (stop_so _ _ (λ exit end. no_inputs here process named end) stop is) same gone
+shown_without_given here words path stop answer is same gone =
+    run_ends_so (ends words path) stop answer (stop_so _ _ (λ exit end. not_given here end) stop is) same gone
 
 pub shows_given : (here : Text) (words : RunWish) (path : Text) (given : Given) (answer : Result RunEnd AllocError)
     → IsReady here words given → IfOk answer (λ end. IsShown here words path given end.exit)

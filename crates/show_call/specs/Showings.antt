@@ -29,9 +29,9 @@ use Rattle.end_words.specs.RunEnds.{outcome_exit}
 use Rattle.end_words.specs.declared.exit.Exit.{Exit}
 use Rattle.end_words.specs.declared.exit.Exit.TheVariants as exits
 use Rattle.end_words.specs.declared.exit.Fault.TheVariants as faults
-use Rattle.end_words.specs.declared.given.Given.{Given}
+use Rattle.run_given.specs.declared.given.Given.{Given}
 use Rattle.run_given.specs.Paths.{from_root}
-use Rattle.run_given.specs.Named.{IsNamedProcess, IsNoInputs, IsNoProcess, IsReady}
+use Rattle.run_given.specs.Named.{IsNotGiven, IsReady}
 
 -- ---- a process alone
 
@@ -115,8 +115,6 @@ pub data IsShown (here : Text) (words : RunWish) (path : Text) (given : Given) :
 pub data IsEndOfShowing (words : RunWish) (path : Text) : Exit → Type 0 where
   shows : {exit : Exit} (here : Text) (given : Given) → IsReady here words given → IsShown here words path given exit →
       IsEndOfShowing words path exit
-  no_process : {exit : Exit} (here : Text) → IsNoProcess here words exit → IsEndOfShowing words path exit
-  no_inputs : {exit : Exit} (here : Text) (process : Process) → IsNamedProcess here words process → IsNoInputs here words exit →
-      IsEndOfShowing words path exit
+  not_given : {exit : Exit} (here : Text) → IsNotGiven here words exit → IsEndOfShowing words path exit
   -- the name of the current folder can't be found
   lost : IsEndOfShowing words path (exits.Fault faults.Folder)

@@ -2,22 +2,19 @@
 ghost use Rattle.std.specs.Prelude.{◌≡◌, None, IfOk, option_map};
 ghost use Rattle.document_links.specs.declared.process.Process.{out-Process};
 ghost use Rattle.program_words.specs.RunWords.{wish_of_run};
-ghost use Rattle.run_given.specs.Named.{IsNamedProcess};
 ghost use Rattle.show_call.specs.Showings as spec;
 
 use crate::process_forms::{lines_of, template_of};
 use crate::tool_command::exit_of_command;
 use document_links::Process;
-use end_words::{
-    Call, Exit, Given, RunEnd, add_foreseen, add_remarks, misfit_lines, of_failure, stopped_call,
-    stopped_run,
-};
+use end_notes::{add_foreseen, add_remarks, misfit_lines, stopped_call};
+use end_words::{Exit, RunEnd, of_failure};
 use job_graph::Cause as NoValue;
 use plain_data::{Items, Text};
 use process_machine::World;
 use program_words::{RunWords, Shows};
 use run_facts::first_misfit;
-use run_given::{file_of, here_of, inputs_of, process_of, without_folder};
+use run_given::{Call, Given, file_of, given_of, here_of, without_folder};
 use run_rules::Cause;
 use std::alloc::{AllocError, Global};
 use std::mem;
@@ -40,56 +37,16 @@ pub fn end_of_showing<R: World + Env + Input>(
                 words,
                 path,
             };
-            let end = end_of_call(rt, &call);
-            mem::drop(here);
-            end
+            match given_of(rt, &call) {
+                Ok(given) => {
+                    let end = of_given(rt, &given, &call);
+                    mem::drop(given);
+                    end
+                }
+                Err(stop) => stopped_call(rt, stop, &call),
+            }
         }
         Err(error) => without_folder(rt.alloc(), &error),
-    }
-}
-
-fn end_of_call<R: World + Input>(rt: &R, call: &Call<'_>) -> Result<RunEnd, AllocError>
-    ensures end { IfOk result (λ end. spec.IsEndOfShowing (wish_of_run call.now.words.now)
-        call.now.path.now end.exit) }
-    ensures left { IfOk result (λ end. end.left ≡ None) }
-{
-    let mut files = Items::new(rt.alloc());
-    match process_of(rt, call, &mut files) {
-        Ok(process) => on_process(rt, process, files, call),
-        Err(stop) => {
-            mem::drop(files);
-            stopped_call(rt, stop, call)
-        }
-    }
-}
-
-fn on_process<R: World + Input>(
-    rt: &R,
-    process: Process,
-    files: Items<Text>,
-    call: &Call<'_>,
-) -> Result<RunEnd, AllocError>
-    requires { IsNamedProcess call.now.here.now (wish_of_run call.now.words.now) process }
-    ensures end { IfOk result (λ end. spec.IsEndOfShowing (wish_of_run call.now.words.now)
-        call.now.path.now end.exit) }
-    ensures left { IfOk result (λ end. end.left ≡ None) }
-{
-    match inputs_of(rt, call) {
-        Ok(inputs) => {
-            let given = Given {
-                process,
-                inputs,
-                files,
-            };
-            let end = of_given(rt, &given, call);
-            mem::drop(given);
-            end
-        }
-        Err(stop) => {
-            mem::drop(process);
-            mem::drop(files);
-            stopped_run(rt, stop, file_of(call.words.inputs))
-        }
     }
 }
 
