@@ -8,7 +8,7 @@ four is killed by `kill -9` after a random time, up to a tenth longer than the l
 - the archives of the record have together no more bytes than the budget, each as many as the files of its row, and a row is archived where it has one,
 - each row that is archived has its files whole in the archive.
 After one that ended by itself, too
-- the outputs are right, and nothing is said but of its jobs,
+- the outputs are right, and nothing is said but of its jobs, and of what is near to those that are not recorded,
 - no folder is in the archive that no archived row knows, but for those that killed runs left: what such a run had stored and did not put any more, or took out of
   the record and did not remove any more,
 - those that lost their archive had been used before those that were left as they were,
@@ -60,6 +60,10 @@ def made_by(number):
 def all_bytes():
     """Returns how many bytes all workflows make. Two jobs with equal inputs are one, and none here are."""
     return sum(2 * len(made_by(number)[1]) for number in range(len(WORKFLOWS)))
+
+
+# How a line begins that says how a job differs from the nearest one of the record.
+NEAR = "  input "
 
 
 class Cache(scene.Place):
@@ -172,7 +176,7 @@ class Soak:
                 self.note(number, "a row is archived, and its files are not whole")
 
     def judge_end(self, number, which, status, said, lines):
-        others = [line for line in lines if not line.startswith(scene.TOLD)]
+        others = [line for line in lines if not line.startswith((*scene.TOLD, NEAR))]
         if status != 0 or others:
             self.note(number, f"it ends with {status}: {others}")
             return
