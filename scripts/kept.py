@@ -3,6 +3,7 @@
 import importlib.machinery
 import importlib.util
 import os
+import shutil
 import subprocess
 import sys
 
@@ -49,7 +50,9 @@ def given(rt, libraries):
     """Gives each library what is kept of it, and returns whether all of them could be given."""
     kept = rt.Kept(libraries)
     for it in libraries:
-        os.makedirs(f"{it.folder}/out/rlib", exist_ok=True)
+        # rt drops what it has kept if a file of it is there already.
+        shutil.rmtree(f"{it.folder}/out/rlib", ignore_errors=True)
+        os.makedirs(f"{it.folder}/out/rlib")
         if not kept.give(it, False, kept.key(it)):
             return False
         kept.is_built(it)
