@@ -23,7 +23,7 @@ def toolchain():
 
 
 def give(name):
-    """Gives the libraries below a crate what is kept of them, if all of it is, and says so. Else they stay, and a check proves them itself.
+    """Gives each library below a crate what is kept of it, if it is not built, and says how many. A check proves the others itself.
 
     What is kept is of the very text of a library and of those below it, and no verdict of the gate rests on what is given here."""
     rt = toolchain()
@@ -39,24 +39,26 @@ def give(name):
         return
     held = rt.rtlib.lock(libraries)
     try:
-        if given(rt, libraries):
-            print(f"{os.path.basename(sys.argv[0])}: {len(libraries)} libraries are taken as rt ci proved and kept them", flush=True)
+        count = given(rt, libraries)
+        if count:
+            print(f"{os.path.basename(sys.argv[0])}: {count} libraries are taken as rt ci proved and kept them", flush=True)
     finally:
         for it in held:
             os.close(it)
 
 
 def given(rt, libraries):
-    """Gives each library what is kept of it, and returns whether all of them could be given."""
-    kept = rt.Kept(libraries)
+    """Gives what is kept to the libraries that are not built, lowest first, and returns how many there were. Those that are built stay."""
+    kept, count = rt.Kept(libraries), 0
     for it in libraries:
-        # rt drops what it has kept if a file of it is there already.
-        shutil.rmtree(f"{it.folder}/out/rlib", ignore_errors=True)
-        os.makedirs(f"{it.folder}/out/rlib")
-        if not kept.give(it, False, kept.key(it)):
-            return False
+        if not it.is_built():
+            # rt drops what it has kept if a file of it is there already.
+            shutil.rmtree(f"{it.folder}/out/rlib", ignore_errors=True)
+            os.makedirs(f"{it.folder}/out/rlib")
+            if not kept.give(it, False, kept.key(it)):
+                continue
+            with open(f"{it.folder}/out/rlib/stamp", "w", encoding="utf-8") as stamp:
+                stamp.write(it.stamp())
+            count += 1
         kept.is_built(it)
-    for it in libraries:
-        with open(f"{it.folder}/out/rlib/stamp", "w", encoding="utf-8") as stamp:
-            stamp.write(it.stamp())
-    return True
+    return count
