@@ -41,8 +41,8 @@ _deparohi() {
         return
     fi
     case $command in
-    run) every="--work --outdir --slots --parallel --retries --launcher --record --archive --cache --budget --base --rate --prefer-kept --verbose --progress --progress-json --keep --keep-failed --validate --template --print-command $import $every" ;;
-    plan) every="--dot --work --outdir --slots --parallel --retries --launcher --record --archive --cache --budget --base --rate --prefer-kept $import $every" ;;
+    run) every="--work --outdir --slots --parallel --retries --launcher --record --archive --cache --budget --trust-times --base --rate --prefer-kept --verbose --progress --progress-json --keep --keep-failed --validate --template --print-command $import $every" ;;
+    plan) every="--dot --work --outdir --slots --parallel --retries --launcher --record --archive --cache --budget --trust-times --base --rate --prefer-kept $import $every" ;;
     record) every="--long --check --remove --forget --budget $every" ;;
     help) every="" ;;
     esac

@@ -55,7 +55,8 @@ class InJob:
         self.refusals: List[Refusal] = []
         # Files that a working folder's listing names, by the inputs that bring them.
         self.listed: Dict[str, Fields] = {}
-        self.ignored: List[Fields] = []
+        # What the runner takes as a hint, or ignores.
+        self.hints: List[Fields] = []
 
     def refuse(self, node: Any, key: Any, feature: str, words: str) -> None:
         self.refusals.append(Refusal(node, key, feature, words))
@@ -72,8 +73,8 @@ class InJob:
             if key in self.raw:
                 made.put(key, self.raw[key], self.raw.line_of(key))
         made.put("requirements", self.requirements())
-        if self.ignored:
-            made.put("hints", list_of(self.raw, self.ignored))
+        if self.hints:
+            made.put("hints", list_of(self.raw, self.hints))
         return made
 
     # ---- the plan
@@ -142,6 +143,7 @@ class InJob:
                 made["shell"] = True
             elif name == "ResourceRequirement":
                 made["resources"] = {key: value for key, value in it.fields.items() if key.endswith(("Min", "Max"))}
+                self.hints.append(it.fields)
             elif name == "InitialWorkDirRequirement":
                 self.working_folder(made, it)
             elif name == "LoadListingRequirement" and it.fields.get("loadListing") in KNOWN_LISTINGS:
@@ -188,10 +190,10 @@ class InJob:
             self.refuse(docker.fields, "class", "DockerRequirement", f"{words}; --force-docker-as-hint leaves it to you")
         elif docker:
             made["software"] = {"image": image}
-            self.ignored.append(docker.fields)
+            self.hints.append(docker.fields)
         if packages:
             made.setdefault("software", {})["packages"] = packages.fields.get("packages")
-            self.ignored.append(packages.fields)
+            self.hints.append(packages.fields)
             if not packages.is_hint and "SoftwareRequirement" not in forced:
                 self.refuse(packages.fields, "class", "SoftwareRequirement", "this runner looks for no software; --force-software-as-hint leaves it to you")
 

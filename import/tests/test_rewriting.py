@@ -67,6 +67,36 @@ class Rewriting(InFolder):
                 self.assertEqual([text.split(":")[0]], [it["class"] for it in made["hints"]])
                 self.assertNotIn("requirements", made)
 
+    def test_resources_become_hints_with_their_numbers(self) -> None:
+        asked = {"class": "ResourceRequirement", "coresMin": 2, "ramMin": 0.5, "tmpdirMax": 100}
+        for section in ("requirements", "hints"):
+            with self.subTest(section):
+                made = self.whole(TOOL + f"inputs: []\noutputs: []\n{section}: {{ResourceRequirement: {{coresMin: 2, ramMin: 0.5, tmpdirMax: 100}}}}\n")
+                self.assertEqual([asked], made["hints"])
+
+    def test_resources_of_a_tool_that_node_does(self) -> None:
+        text = TOOL + "inputs: {n: int}\noutputs: []\narguments: [$(runtime.cores)]\n"
+        for section in ("requirements", "hints"):
+            with self.subTest(section):
+                made = self.whole(text + f"{section}: {{ResourceRequirement: {{coresMin: 2, ramMin: $(inputs.n)}}}}\n")
+                self.assertEqual("node", made["baseCommand"][0])
+                self.assertEqual([{"class": "ResourceRequirement", "coresMin": 2, "ramMin": "$(inputs.n)"}], made["hints"])
+
+    def test_resources_that_count_at_a_tool(self) -> None:
+        tool = "{class: CommandLineTool, baseCommand: 'true', inputs: [], outputs: [], hints: {ResourceRequirement: {coresMin: 3}}}"
+        step = f"{{in: {{}}, out: [], run: {tool}%s}}"
+        text = WORKFLOW + "%s: {ResourceRequirement: {coresMin: 1, ramMin: 7}}\ninputs: []\noutputs: []\nsteps: {s: " + step + "}\n"
+        rows = {
+            ("hints", ""): {"coresMin": 3},
+            ("requirements", ""): {"coresMin": 1, "ramMin": 7},
+            ("requirements", ", requirements: {ResourceRequirement: {coresMin: 2}}"): {"coresMin": 2},
+        }
+        for given, wanted in rows.items():
+            with self.subTest(given):
+                made = self.whole(text % given)
+                self.assertEqual([{"class": "ResourceRequirement", **wanted}], made["steps"]["s"]["run"]["hints"])
+                self.assertEqual([], [it for it in (made, made["steps"]["s"]) if {"hints", "requirements"} & set(it)])
+
     def test_requirements_of_a_workflow_reach_its_tools(self) -> None:
         tool = "{class: CommandLineTool, cwlVersion: v1.2, baseCommand: 'true', inputs: [], outputs: []}"
         made = self.whole(WORKFLOW + f"requirements: {{NetworkAccess: {{networkAccess: true}}}}\ninputs: []\noutputs: []\nsteps: {{s: {{in: {{}}, out: [], run: {tool}}}}}\n")

@@ -53,18 +53,6 @@ abbrev pub telling_of : Choice → Telling
 telling_of (Run words) = words.telling
 telling_of choice = Nothing
 
-module _ {R K L : Type 0} (records : RecordsOf R K L) (rows : RowsOf K) (rt : R) where
-  -- the end that these words lead to with this `PATH`, the work folder that it leaves, whether it is to be explained, and how jobs are told
-  -- of on the way
-  pub data LeadsTo (words : List Text) (path : Text) : Exit → (left : Option Text) → Bool → Telling → Type 0 where
-    chooses : {exit : Exit} {left : Option Text} (choice : Choice) → Asks words (wish_of choice) → IsEndOf records rows rt path choice exit left →
-        LeadsTo words path exit left (asks_why choice) (telling_of choice)
-    -- memory ran out on the way to that end
-    out_of_memory : (choice : Choice) → Asks words (wish_of choice) →
-        LeadsTo words path (Fault faults.OutOfMemory) None (asks_why choice) (telling_of choice)
-    -- or before the words were read
-    unread : LeadsTo words path (Fault faults.OutOfMemory) None false Nothing
-
 -- `clap` answers with what is wrong, and not with the help that the words ask for
 abbrev pub IsWrong : ErrorKind → Type 0
 IsWrong kind = (kind ≢ DisplayHelp) × (kind ≢ DisplayVersion)
@@ -77,11 +65,22 @@ pub data Explains (kind : ErrorKind) (out out_new err err_new : Held) : ℕ → 
   unwritten : Explains kind out out_new err err_new 3
 
 module _ {R K L : Type 0} (records : RecordsOf R K L) (rows : RowsOf K) (rt : R) where
+  -- the end that these words lead to with this `PATH`, the work folder that it leaves, whether it is to be explained, and how jobs are told
+  -- of on the way
+  pub data LeadsTo (words : List Text) (path : Text) : Exit → (left : Option Text) → Bool → Telling → Type 0 where
+    chooses : {exit : Exit} {left : Option Text} (choice : Choice) → Asks words (wish_of choice) → IsEndOf records rows rt path choice exit left →
+        LeadsTo words path exit left (asks_why choice) (telling_of choice)
+    -- memory ran out on the way to that end
+    out_of_memory : (choice : Choice) → Asks words (wish_of choice) →
+        LeadsTo words path (Fault faults.OutOfMemory) None (asks_why choice) (telling_of choice)
+    -- or before the words were read
+    unread : LeadsTo words path (Fault faults.OutOfMemory) None false Nothing
+
   -- what is written and answered for these words and this `PATH`, where the runtime has these records
   pub data Tells (words : List Text) (path : Text) (out out_new err err_new : Held) (status : ℕ) : Type 0 where
     -- the words lead to this end, before which a run may have told of its jobs
     ends : (exit : Exit) (left : Option Text) (savings : Option Savings) (unkept : Option Text) (explains : Bool) (telling : Telling) (err_run : Held) →
-        LeadsTo records rows rt words path exit left explains telling → IsRunTold telling err err_run →
+        LeadsTo words path exit left explains telling → IsRunTold telling err err_run →
         Says exit left savings unkept explains out out_new err_run err_new status → Tells words path out out_new err err_new status
     -- the words ask for help, or are refused, by a kind that they may be refused by
     explains : (kind : ErrorKind) → IsAmong kind (fault_of command_line words) →

@@ -67,6 +67,7 @@ fn on_process(alloc: Global, process: Process, path: &str) -> Result<Exit, Alloc
                 process,
                 inputs,
                 files: Items::new(alloc),
+                hints: Keyed::new(alloc),
             };
             let exit = in_world(alloc, &given, path);
             mem::drop(given);

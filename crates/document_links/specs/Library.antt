@@ -19,6 +19,10 @@ Documents = List (List ℕ × List ℕ)
 abbrev pub Found : Type 0
 Found = Result Data DocumentFault
 
+abbrev pub sound_in : Found → Option Data
+sound_in (Ok d) = Some d
+sound_in (Err fault) = None
+
 abbrev pub IsReadAs : List ℕ → Found → Type 0
 IsReadAs bytes (Ok d) = IsSound bytes d
 IsReadAs bytes (Err fault) = IsRefused (error.Refused fault) bytes

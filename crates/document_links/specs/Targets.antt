@@ -3,6 +3,9 @@
 -- URL there is wrong in its own document.
 use Rattle.std.specs.Prelude.{ℕ, List, Option, Some, None, Result, Ok, Err, if◌then◌else◌}
 use Rattle.std.specs.Option.{option_map_or}
+use Rattle.serde_json.specs.Data.{Data}
+use Rattle.serde_json.specs.Find.{as_str}
+use Rattle.serde_json.specs.View.{view}
 use Rattle.document_table.specs.Faults.{here}
 use Rattle.document_table.specs.Packed.{Placed, item_named, root_of}
 use Rattle.document_table.specs.Texts.{has_hash}
@@ -14,6 +17,8 @@ use Rattle.document_links.specs.Homes.{Home, home}
 use Rattle.document_links.specs.Library.{Finds, Found}
 use Rattle.document_links.specs.Urls.{joined, url_text}
 use Rattle.document_links.specs.declared.fault.LinkFault.TheVariants.{Document, NoItem, NotLoaded}
+use Rattle.document_links.specs.declared.target.Target as code
+use Rattle.document_links.specs.declared.target.Target.TheVariants.{Here, There}
 use Rattle.document_links.specs.declared.walk.WalkFault.{WalkFault}
 use Rattle.document_links.specs.declared.walk.WalkFault.TheVariants.{Own, Other}
 
@@ -46,3 +51,22 @@ document_at find base name = option_map_or (found_at find) (joined base name) (E
 
 unfoldable pub target : Finds → Home → List ℕ → Target
 target find h name = if has_hash name then item_at h name (item_named name h.document) else document_at find h.url name
+
+-- ---- what a step runs
+
+-- a process, and the document that it is in
+abbrev pub Run : Type 0
+Run = Home × Data
+
+abbrev pub led_by : Target → Option Run
+led_by (Ok t) = Some (t.0, t.1.process)
+led_by (Err fault) = None
+
+-- the object in its place, or what its name leads to, if that is there and has no fault of its own
+abbrev pub run_of : Finds → Home → Data → Option Run
+run_of find h d = option_map_or (λ name. led_by (target find h name)) (as_str d) (Some (h, d))
+
+-- one that the code has, of a step in that document
+abbrev pub run_seen : Home → code.Target → Run
+run_seen h (Here v) = (h, view v.now)
+run_seen h (There url document) = (home url (view document.now.json), (root_of (view document.now.json)).process)

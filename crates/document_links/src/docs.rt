@@ -58,6 +58,13 @@ impl Docs {
         self.bytes.len()
     }
 
+    /// Returns the documents as steps' names are looked up in them.
+    pub fn look_up(&self) -> &Library
+        ensures { IsLookUp self.now (finds_in result.now) }
+    {
+        self.library()
+    }
+
     /// Returns what each of them reads as.
     pub(crate) fn library(&self) -> &Library
         ensures read { IsLookUp self.now (finds_in result.now) }

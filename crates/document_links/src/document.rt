@@ -1,9 +1,11 @@
 //! Documents, each of which is read once.
-ghost use Rattle.std.specs.Prelude.{◌≡◌, IfOk};
-ghost use Rattle.document_links.specs.Library.{IsReadAs, seen};
+ghost use Rattle.std.specs.Prelude.{◌≡◌, IfOk, option_map};
+ghost use Rattle.serde_json.specs.View.{view};
+ghost use Rattle.document_links.specs.Library.{Found, IsReadAs, seen, sound_in};
 ghost use Rattle.document_links.specs.inner.Sound.{IsSoundReading};
 
 use crate::library::{Reading, read_as};
+use document_table::Indexed;
 use plain_data::Items;
 use std::alloc::{AllocError, Global};
 use std::marker::Model;
@@ -44,6 +46,17 @@ impl Document {
                 mem::drop(bytes);
                 Err(error)
             }
+        }
+    }
+
+    /// Returns the JSON of the document, if it has no fault of its own.
+    pub fn sound(&self) -> Option<&Indexed>
+        ensures { (found : Found) × IsReadAs self.now found
+            × (option_map (λ document. view document.now.json) result ≡ sound_in found) }
+    {
+        match &self.reading {
+            Reading::Sound(document) => Some(document),
+            Reading::Wrong(_) => None,
         }
     }
 

@@ -26,10 +26,13 @@ pub use bounds::{MOST_PROCESSES, MOST_WORKFLOWS};
 pub use docs::Docs;
 pub use document::Document;
 pub use fault::{LinkError, LinkFault};
+pub use home::Home;
 pub use laws::{
     a_document_has_one_process, only_bounds_refuse_a_process,
     only_items_that_steps_name_are_missing, only_what_is_named_is_missing, processes_are_limited,
     what_is_linked_is_the_process, what_is_linked_needs_documents,
 };
+pub use library::Library;
 pub use process::{Process, Step, Workflow};
 pub use reading::{needed_docs, read_process};
+pub use target::{Target, run_of};

@@ -1,12 +1,12 @@
 //! What a step's name leads to.
-ghost use Rattle.std.specs.Prelude.{◌≡◌, Ok, IfOk, IfErr};
+ghost use Rattle.std.specs.Prelude.{◌≡◌, Ok, IfOk, IfErr, option_map};
 ghost use Rattle.serde_json.specs.View.{view};
 ghost use Rattle.document_table.specs.Entries.{IsProcess};
 ghost use Rattle.cwl_process.specs.Documents.{item_fault};
 ghost use Rattle.document_links.specs.Library.{finds_among, finds_in};
 ghost use Rattle.document_links.specs.Refused.{IsWalkErrorOf};
 ghost use Rattle.document_links.specs.Homes.{home, home_seen};
-ghost use Rattle.document_links.specs.Targets.{document_at, found_at, item_at, item_or};
+ghost use Rattle.document_links.specs.Targets.{document_at, found_at, item_at, item_or, led_by, run_of, run_seen, target};
 ghost use Rattle.document_table.specs.Packed.{item_named, placed_seen, root_of};
 ghost use Rattle.document_links.specs.inner.Sound.{AllProcesses, AllSound};
 
@@ -16,10 +16,61 @@ use crate::joining::{joined, url_text};
 use crate::library::{Library, Reading};
 use crate::walk::{WalkError, WalkFault};
 use cwl_process::item_fault;
-use document_table::{Cause, Indexed, Placed, here};
+use document_table::{Cause, Indexed, Placed, has_hash, here};
 use plain_data::{Keyed, Text};
-use std::alloc::Global;
+use serde_json::Value;
+use std::alloc::{AllocError, Global};
 use url::Url;
+
+/// A process that a step runs.
+#[derive(Drop)]
+pub enum Target<'d> {
+    /// An object of the document that the step is in.
+    Here(&'d Value),
+    /// What the document of that URL stands for.
+    There(Url, &'d Indexed),
+}
+
+/// Returns what a step runs that has this under `run`: the object there, or what its name leads to, if that is there and has no fault of
+/// its own.
+pub fn run_of<'d>(
+    alloc: Global,
+    library: &'d Library,
+    home: Home<'d>,
+    run: &'d Value,
+) -> Result<Option<Target<'d>>, AllocError>
+    ensures { IfOk result (λ found. option_map (run_seen (home_seen home.entry)) found
+        ≡ run_of (finds_in library.now) (home_seen home.entry) (view run.now)) }
+{
+    match run.as_str() {
+        None => Ok(Some(Target::Here(run))),
+        Some(name) => named(alloc, library, home, name),
+    }
+}
+
+#[tactic(auto, unfolding(crate::specs::Targets::target))]
+fn named<'d>(
+    alloc: Global,
+    library: &'d Library,
+    home: Home<'d>,
+    name: &str,
+) -> Result<Option<Target<'d>>, AllocError>
+    ensures { IfOk result (λ found. option_map (run_seen (home_seen home.entry)) found
+        ≡ led_by (target (finds_in library.now) (home_seen home.entry) name.now)) }
+{
+    if has_hash(name) {
+        return match item_at(alloc, home, name) {
+            Ok(item) => Ok(Some(Target::Here(item.process))),
+            Err(WalkError::Refused(_)) => Ok(None),
+            Err(WalkError::OutOfMemory) => Err(AllocError),
+        };
+    }
+    match document_at(alloc, library, home.url, name) {
+        Ok((url, document)) => Ok(Some(Target::There(url, document))),
+        Err(WalkError::Refused(_)) => Ok(None),
+        Err(WalkError::OutOfMemory) => Err(AllocError),
+    }
+}
 
 /// The item of that name in a document, which has no fault of its own.
 pub(crate) fn item_at<'d>(

@@ -2,7 +2,7 @@
 //!
 //! - `stopped_call` is the end of a call that has nothing to run, with lines on its document and its inputs: a text that is no JSON, a field
 //!   that is not known, a wrong link, a location that is no file's.
-//! - `tool_lines`, `step_lines` and `add_output` have the references of a process that have no value, `add_foreseen` those known before a run.
+//! - `add_tool`, `add_step` and `add_output` are on the references of a process that have no value, `add_foreseen` on those known before a run.
 //! - `misfit_lines`, `missing_lines` and `secondary_lines` are on an input; `add_start`, `add_obstacle` and `add_listing` on calls of the host;
 //!   `add_ending` and `add_mismatch` on the end of a job; `add_remarks` on what a run ignores.
 //!
@@ -37,4 +37,4 @@ pub use remarks::add_remarks;
 pub use run_notes::{Remembered, add_mismatch};
 pub use start_notes::{add_listing, add_obstacle, add_start, add_uncopied};
 pub use stops::stopped_call;
-pub use tool_texts::{add_output, step_lines, tool_lines, tool_of};
+pub use tool_texts::{add_output, add_step, add_tool, tool_of};

@@ -35,6 +35,9 @@ static IGNORED: [(&str, &str); 10] = [
     ("InlineJavascriptRequirement", "no JavaScript is evaluated"),
 ];
 
+/// What is said of a hint that a launcher is told, if there is none.
+const RESERVED: &str = "the hint `ResourceRequirement` is ignored: nothing is reserved";
+
 const FORMAT: &str = "`format` is ignored: a file is taken whatever its format is";
 
 const SCRIPT_CLASS: &str = "InlineJavascriptRequirement";
@@ -62,8 +65,11 @@ pub fn add_remarks<R: World>(
     add_names(rt.alloc(), given, lines)?;
     let Findings { lines: more, files } = findings_in(rt, document, inputs)?;
     mem::drop(files);
+    let is_told = !given.hints.is_empty();
     for line in more {
-        lines.push(line)?;
+        if !(is_told && line.as_str() == RESERVED) {
+            lines.push(line)?;
+        }
     }
     Ok(())
 }

@@ -14,11 +14,5 @@ pub fn stopped_call<R: World>(rt: &R, stop: Stop, call: &Call<'_>) -> Result<Run
 {
     let exit = stopped(stop)?;
     let notes = advice_on(rt, &exit, call);
-    Ok(RunEnd {
-        exit,
-        left: None,
-        notes,
-        savings: None,
-        unkept: None,
-    })
+    Ok(RunEnd::with_notes(exit, notes))
 }

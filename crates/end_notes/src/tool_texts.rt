@@ -52,37 +52,35 @@ fn step_name(part: &str) -> &str {
 
 // ---- references
 
-/// Returns lines on the references of what makes a tool's command: on the first that begins with a name that is not known, speaks of an
+/// Adds lines on the references of what makes a tool's command: on the first that begins with a name that is not known, speaks of an
 /// input that the tool has not, or of what no value of its type has; if there is none, on those that need not have a value.
-pub fn tool_lines(
+pub fn add_tool(
     alloc: Global,
     process: &Process,
     place: &str,
-) -> Result<Vec<String>, AllocError> {
-    let mut lines = Vec::new(alloc);
+    lines: &mut Vec<String>,
+) -> Result<(), AllocError> {
     let Some(tool) = tool_of(process, place) else {
-        return Ok(lines);
+        return Ok(());
     };
     let scope = scope_of_command(alloc, tool)?;
     let texts = command_texts(alloc, tool)?;
-    add_references(alloc, &scope, texts.as_slice(), &mut lines)?;
-    Ok(lines)
+    add_references(alloc, &scope, texts.as_slice(), lines)
 }
 
-/// Returns such lines on a step's `valueFrom` and `when`.
-pub fn step_lines(
+/// Adds such lines on a step's `valueFrom` and `when`.
+pub fn add_step(
     alloc: Global,
     process: &Process,
     place: &str,
-) -> Result<Vec<String>, AllocError> {
-    let mut lines = Vec::new(alloc);
+    lines: &mut Vec<String>,
+) -> Result<(), AllocError> {
     let Some(step) = step_of(process, place) else {
-        return Ok(lines);
+        return Ok(());
     };
     let scope = scope_of_step(alloc, step)?;
     let texts = step_texts(alloc, step)?;
-    add_references(alloc, &scope, texts.as_slice(), &mut lines)?;
-    Ok(lines)
+    add_references(alloc, &scope, texts.as_slice(), lines)
 }
 
 /// What the texts speak of that make the command of a tool.

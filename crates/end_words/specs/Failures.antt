@@ -43,8 +43,7 @@ failed_jobs process last ends = map (λ ended. ended.ticket) (filter (λ ended. 
 
 -- another ticket than that of the job that the end of the run names
 abbrev pub is_other : Option ℕ → ℕ → Bool
-is_other None ticket = true
-is_other (Some named) ticket = not (named == ticket)
+is_other named ticket = not (is_ticket ticket named)
 
 abbrev pub failed_too : (place : List ℕ) → List ℕ
 failed_too place = codes "the command of " ++ place ++ codes " failed too"

@@ -1,28 +1,18 @@
 -- Where a run leaves its work folder.
 use Rattle.std.specs.Prelude.{ℕ, List, Bool, true, false, ◌&&◌, ◌||◌, Option, Some, None, if◌then◌else◌}
-use Rattle.proc_host.specs.declared.call.HostFault.{HostFault}
 use Rattle.proc_host.specs.declared.call.HostFault.TheVariants.{Deliver}
 use Rattle.program_words.specs.RunWords.{RunWish}
 use Rattle.end_words.specs.declared.exit.Exit.{Exit}
 use Rattle.end_words.specs.declared.exit.Exit.TheVariants.{Output, Fault}
-use Rattle.end_words.specs.declared.exit.Fault.{Fault as Fault_}
 use Rattle.end_words.specs.declared.exit.Fault.TheVariants.{Host}
 
 abbrev pub is_failure : Exit → Bool
 is_failure (Output line) = false
 is_failure exit = true
 
-abbrev pub is_delivery : HostFault → Bool
-is_delivery Deliver = true
-is_delivery fault = false
-
-abbrev pub is_delivery_of : Fault_ → Bool
-is_delivery_of (Host fault name) = is_delivery fault
-is_delivery_of fault = false
-
 -- results could not be delivered
 abbrev pub is_undelivered : Exit → Bool
-is_undelivered (Fault fault) = is_delivery_of fault
+is_undelivered (Fault (Host Deliver name)) = true
 is_undelivered exit = false
 
 -- by `--keep` after any end, by `--keep-failed` after a failure, and without a word where results could not be delivered

@@ -39,38 +39,21 @@ longer line words number = line ++ codes ", " ++ words ++ codes ": " ++ decimal 
 abbrev pub with_part : (line words : List ℕ) → ℕ → List ℕ
 with_part line words number = if number == 0 then line else longer line words number
 
-abbrev pub with_kept : (line : List ℕ) → (kept rest : ℕ) → List ℕ
-with_kept line kept rest = with_part (with_part line (codes "done and kept") kept) (codes "done and not kept") rest
-
-abbrev pub with_done_of : (line : List ℕ) → (done : ℕ) → Option ℕ → List ℕ
-with_done_of line done None = with_part line (codes "done") done
-with_done_of line done (Some kept) = with_kept line kept (done - kept)
-
-abbrev pub with_done : (line : List ℕ) → Tally → List ℕ
-with_done line tally = with_done_of line tally.done tally.kept
+abbrev pub with_done : (line : List ℕ) → (done : ℕ) → (kept : Option ℕ) → List ℕ
+with_done line done None = with_part line (codes "done") done
+with_done line done (Some kept) = with_part (with_part line (codes "done and kept") kept) (codes "done and not kept") (done - kept)
 
 -- those of which no command was started
 abbrev pub left_of : Tally → ℕ
 left_of tally = tally.known - tally.before - tally.done - tally.failed
 
-abbrev pub with_left : (line : List ℕ) → Tally → List ℕ
-with_left line tally = with_part line (codes "not started") (left_of tally)
-
-abbrev pub known_words : ℕ → List ℕ
-known_words known = codes "known jobs: " ++ decimal known
-
-abbrev pub with_before : Tally → List ℕ
-with_before tally = with_part (known_words tally.known) (codes "kept before") tally.before
-
+-- the jobs that are known, those that were kept before, and those that were done
 abbrev pub with_jobs : Tally → List ℕ
-with_jobs tally = with_done (with_before tally) tally
-
-abbrev pub with_failed : Tally → List ℕ
-with_failed tally = with_part (with_jobs tally) (codes "failed") tally.failed
+with_jobs tally = with_done (with_part (codes "known jobs: " ++ decimal tally.known) (codes "kept before") tally.before) tally.done tally.kept
 
 -- `known jobs: N, kept before: N, done and kept: N, done and not kept: N, failed: N, not started: N`; without a cache `done: N`
 abbrev pub tally_line : Tally → List ℕ
-tally_line tally = with_left (with_failed tally) tally
+tally_line tally = with_part (with_part (with_jobs tally) (codes "failed") tally.failed) (codes "not started") (left_of tally)
 
 -- what a cache would have kept
 abbrev pub cache_line : (done : ℕ) → List ℕ

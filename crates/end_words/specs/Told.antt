@@ -1,9 +1,8 @@
 -- How an end of the program is said: which writer is given its line, and what follows on the errors where it is to be explained.
-use Rattle.std.specs.Prelude.{◌≡◌, ℕ, List, ◌++◌, Bool, true, false, Option, Some, None, codes}
+use Rattle.std.specs.Prelude.{◌≡◌, ℕ, List, ◌++◌, Bool, true, false, Option, Some, None, codes, option_map}
 use Rattle.std.specs.Io.KnownBytes.{Appends}
 use Rattle.clap.specs.Words.{Text}
 use Rattle.record_program.specs.Endings as record_program
-use Rattle.record_program.specs.declared.ending.Ending.{Ending}
 use Rattle.record_program.specs.declared.ending.Ending.TheVariants.{Rows}
 use Rattle.program_words.specs.Savings.{savings_line}
 use Rattle.program_words.specs.Visible.{visible}
@@ -37,6 +36,11 @@ Prints (Fault fault) out out_new err err_new = IsGiven (codes "fault: " ++ word_
 abbrev pub IsPut : (line : List ℕ) → (old new : Held) → Type 0
 IsPut line old new = Appends old new (visible line ++ codes "\n")
 
+-- nothing, or this line
+abbrev pub IsPutIf : Option (List ℕ) → (old new : Held) → Type 0
+IsPutIf None old new = new ≡ old
+IsPutIf (Some line) old new = IsPut line old new
+
 -- a line more
 abbrev pub HasLine : (old new : Held) → Type 0
 HasLine old new = (line : List ℕ) × IsPut line old new
@@ -46,16 +50,11 @@ pub data HasLines (old : Held) : Held → Type 0 where
   none : HasLines old old
   more : {mid new : Held} → HasLines old mid → HasLine mid new → HasLines old new
 
--- what follows the rows of a record on the errors: nothing, and else a line in words
-abbrev pub IsEndingExplained : Ending → (err err_new : Held) → Type 0
-IsEndingExplained (Rows lines) err err_new = err_new ≡ err
-IsEndingExplained ending err err_new = HasLine err err_new
-
 -- what follows the line of an end on the errors: nothing where nothing went wrong, of a plan its reasons, else a line in words
 abbrev pub IsExplained : Exit → (err err_new : Held) → Type 0
 IsExplained (Output line) err err_new = err_new ≡ err
 IsExplained (Planned texts) err err_new = Appends err err_new texts.reasons
-IsExplained (Shows ending) err err_new = IsEndingExplained ending err err_new
+IsExplained (Shows (Rows lines)) err err_new = err_new ≡ err
 IsExplained exit err err_new = HasLine err err_new
 
 -- lines on what failed, and after a run also on what it has ignored: none behind a plan and behind the rows of a record
@@ -64,14 +63,9 @@ AreNotes (Planned texts) err err_new = err_new ≡ err
 AreNotes (Shows ending) err err_new = err_new ≡ err
 AreNotes exit err err_new = HasLines err err_new
 
--- what became of the jobs of a run, where it tells of them
-abbrev pub IsSavingsLine : Option Savings → (err err_new : Held) → Type 0
-IsSavingsLine None err err_new = err_new ≡ err
-IsSavingsLine (Some savings) err err_new = IsPut (savings_line savings) err err_new
-
--- after a success alone
+-- what became of the jobs of a run, where it tells of them: after a success alone
 abbrev pub IsSavingsTold : Exit → Option Savings → (err err_new : Held) → Type 0
-IsSavingsTold (Output line) savings err err_new = IsSavingsLine savings err err_new
+IsSavingsTold (Output line) savings err err_new = IsPutIf (option_map savings_line savings) err err_new
 IsSavingsTold exit savings err err_new = err_new ≡ err
 
 -- where the work folder is, if it stays
@@ -79,23 +73,18 @@ abbrev pub left_words : (work : List ℕ) → List ℕ
 left_words work = codes "the work folder " ++ work ++ codes " stays"
 
 abbrev pub IsLeftTold : Option Text → (err err_new : Held) → Type 0
-IsLeftTold None err err_new = err_new ≡ err
-IsLeftTold (Some work) err err_new = IsPut (left_words work) err err_new
+IsLeftTold left err err_new = IsPutIf (option_map left_words left) err err_new
 
 -- what a run could not keep for later ones, since there is no room or since the record may not be written
 abbrev pub unkept_words : (what : List ℕ) → List ℕ
 unkept_words what = codes "not kept: " ++ what
-
-abbrev pub IsUnkeptLine : Option Text → (err err_new : Held) → Type 0
-IsUnkeptLine None err err_new = err_new ≡ err
-IsUnkeptLine (Some what) err err_new = IsPut (unkept_words what) err err_new
 
 -- none behind a plan, a broken certificate and the rows of a record, which keep nothing
 abbrev pub IsUnkeptTold : Exit → Option Text → (err err_new : Held) → Type 0
 IsUnkeptTold (Planned texts) what err err_new = err_new ≡ err
 IsUnkeptTold (Broken rule) what err err_new = err_new ≡ err
 IsUnkeptTold (Shows ending) what err err_new = err_new ≡ err
-IsUnkeptTold exit what err err_new = IsUnkeptLine what err err_new
+IsUnkeptTold exit what err err_new = IsPutIf (option_map unkept_words what) err err_new
 
 -- an end is said in its line; where it is to be explained, words follow on the errors, lines on what failed, what became of the jobs, and
 -- where the work folder is; else only what could not be kept

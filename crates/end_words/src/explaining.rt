@@ -1,7 +1,7 @@
 //! What went wrong, in words (`--explain`).
 ghost use Rattle.std.specs.Prelude.{◌≡◌, IfOk, OnOk, string_bytes};
 ghost use Rattle.std.specs.Io.KnownBytes.{Appends};
-ghost use Rattle.end_words.specs.Told.{AreNotes, HasLine, HasLines, IsEndingExplained, IsExplained, IsLeftTold, IsPut, IsSavingsLine, IsSavingsTold, IsUnkeptLine, IsUnkeptTold, left_words, unkept_words};
+ghost use Rattle.end_words.specs.Told.{AreNotes, HasLine, HasLines, IsExplained, IsLeftTold, IsPut, IsSavingsTold, IsUnkeptTold, left_words, unkept_words};
 
 use crate::exit::{Exit, Fault, PlanTexts, Refusal, Unreadable};
 use command_line::BuildFault;
@@ -63,7 +63,8 @@ fn put_reasons<E: Write>(texts: &PlanTexts, err: &mut E) -> io::Result<()>
 
 // Writes a line that says why a record can't be shown; nothing if it is.
 fn explain_ending<E: Write>(alloc: Global, ending: &Ending, err: &mut E) -> io::Result<()>
-    ensures { OnOk result (IsEndingExplained ending.now (E.contents err.old) (E.contents err.new)) }
+    ensures { OnOk result (IsExplained (Exit.Record ending.now) (E.contents err.old)
+        (E.contents err.new)) }
 {
     match ending {
         Ending::Rows(_) => Ok(()),
@@ -130,17 +131,11 @@ pub fn put_savings<E: Write>(
         (E.contents err.new)) }
 {
     match exit {
-        Exit::Output(_) => put_line_of(alloc, savings, err),
+        Exit::Output(_) => match savings {
+            None => Ok(()),
+            Some(savings) => put_line(alloc, savings_line(alloc, savings)?.as_str(), err),
+        },
         _ => Ok(()),
-    }
-}
-
-fn put_line_of<E: Write>(alloc: Global, savings: &Option<Savings>, err: &mut E) -> io::Result<()>
-    ensures { OnOk result (IsSavingsLine savings.now (E.contents err.old) (E.contents err.new)) }
-{
-    match savings {
-        None => Ok(()),
-        Some(savings) => put_line(alloc, savings_line(alloc, savings)?.as_str(), err),
     }
 }
 
@@ -166,16 +161,10 @@ pub fn put_unkept<E: Write>(
 {
     match exit {
         Exit::Plan(_) | Exit::Broken(_) | Exit::Record(_) => Ok(()),
-        _ => put_unkept_line(alloc, unkept, err),
-    }
-}
-
-fn put_unkept_line<E: Write>(alloc: Global, unkept: &Option<Text>, err: &mut E) -> io::Result<()>
-    ensures { OnOk result (IsUnkeptLine unkept.now (E.contents err.old) (E.contents err.new)) }
-{
-    match unkept {
-        None => Ok(()),
-        Some(what) => put_line(alloc, unkept_words(alloc, what.as_str())?.as_str(), err),
+        _ => match unkept {
+            None => Ok(()),
+            Some(what) => put_line(alloc, unkept_words(alloc, what.as_str())?.as_str(), err),
+        },
     }
 }
 
@@ -499,7 +488,7 @@ pub fn hindrance_words(why: Hindrance) -> &'static str {
     match why {
         Hindrance::Given => "a file that the run was given is there",
         Hindrance::Guarded =>
-            "it is a file of the run's own: a document, the inputs, the record, or what SQLite puts beside that",
+            "it is a file of the run's own: a document, the inputs, the record, or what stands beside that",
         Hindrance::Taken =>
             "a file is in the place of a folder, or a folder in the place of a file",
         Hindrance::Forbidden => "it is not allowed",

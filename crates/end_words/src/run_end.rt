@@ -33,10 +33,18 @@ impl RunEnd {
         ensures exit { result.exit ≡ exit }
         ensures left { result.left ≡ None }
     {
+        RunEnd::with_notes(exit, Vec::new(alloc))
+    }
+
+    /// An end with these lines on what failed.
+    pub fn with_notes(exit: Exit, notes: Vec<String>) -> RunEnd
+        ensures exit { result.exit ≡ exit }
+        ensures left { result.left ≡ None }
+    {
         RunEnd {
             exit,
             left: None,
-            notes: Vec::new(alloc),
+            notes,
             savings: None,
             unkept: None,
         }
@@ -76,23 +84,30 @@ impl RunEnd {
         ensures savings { IfOk result (λ end. end.savings
             ≡ unwritten.savings_of self.exit self.savings) }
     {
-        if is_of_jobs(&self.exit) {
-            let what = unwritten_words(alloc, file)?;
-            self.keep_no_jobs(alloc, what)?;
+        if !is_of_jobs(&self.exit) {
+            return Ok(self);
         }
-        Ok(self)
+        match self.keep_no_jobs(alloc, file) {
+            Ok(()) => Ok(self),
+            Err(error) => {
+                mem::drop(self);
+                Err(error)
+            }
+        }
     }
 
     // Adds what of the jobs was not kept.
-    fn keep_no_jobs(&mut self, alloc: Global, what: String) -> Result<(), AllocError>
+    fn keep_no_jobs(&mut self, alloc: Global, file: &str) -> Result<(), AllocError>
         ensures exit { OnOk result (self.new.exit ≡ self.old.exit) }
         ensures left { OnOk result (self.new.left ≡ self.old.left) }
-        ensures unkept { OnOk result (self.new.unkept ≡ Some (string_bytes what)) }
+        ensures unkept { OnOk result (self.new.unkept ≡ Some (unwritten.unwritten_words file.now)) }
         ensures notes { OnOk result (map string_bytes self.new.notes.items
-            ≡ map string_bytes self.old.notes.items ++ (unkept_words (string_bytes what) ∷ [])) }
+            ≡ map string_bytes self.old.notes.items
+            ++ (unkept_words (unwritten.unwritten_words file.now) ∷ [])) }
         ensures savings { OnOk result (self.new.savings
             ≡ option_map unwritten.none_kept self.old.savings) }
     {
+        let what = unwritten_words(alloc, file)?;
         self.notes.push(unkept_words(alloc, what.as_str())?)?;
         keep_none(&mut self.savings);
         mem::drop(self.unkept.replace(Text::from_string(what)));

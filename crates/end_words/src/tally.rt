@@ -111,60 +111,36 @@ pub fn add_tally(alloc: Global, tally: &Tally, lines: &mut Vec<String>) -> Resul
 fn tally_line(alloc: Global, tally: &Tally) -> Result<String, AllocError>
     ensures { IfOk result (λ line. string_bytes line ≡ spec.tally_line tally.now) }
 {
-    let line = with_failed(alloc, tally)?;
-    with_left(alloc, line, tally)
-}
-
-fn with_failed(alloc: Global, tally: &Tally) -> Result<String, AllocError>
-    ensures { IfOk result (λ line. string_bytes line ≡ spec.with_failed tally.now) }
-{
     let line = with_jobs(alloc, tally)?;
-    with_part(alloc, line, "failed", tally.failed)
+    let line = with_part(alloc, line, "failed", tally.failed)?;
+    with_part(alloc, line, "not started", left_of(tally))
 }
 
 fn with_jobs(alloc: Global, tally: &Tally) -> Result<String, AllocError>
     ensures { IfOk result (λ line. string_bytes line ≡ spec.with_jobs tally.now) }
 {
-    let line = with_before(alloc, tally)?;
+    let known = tally.known;
+    let line = format!(in alloc; "known jobs: {known}")?;
+    let line = with_part(alloc, line, "kept before", tally.before)?;
     with_done(alloc, line, tally)
-}
-
-fn with_before(alloc: Global, tally: &Tally) -> Result<String, AllocError>
-    ensures { IfOk result (λ line. string_bytes line ≡ spec.with_before tally.now) }
-{
-    let line = known_words(alloc, tally.known)?;
-    with_part(alloc, line, "kept before", tally.before)
-}
-
-fn known_words(alloc: Global, known: u64) -> Result<String, AllocError>
-    ensures { IfOk result (λ line. string_bytes line ≡ spec.known_words known) }
-{
-    format!(in alloc; "known jobs: {known}")
-}
-
-fn with_left(alloc: Global, line: String, tally: &Tally) -> Result<String, AllocError>
-    ensures { IfOk result (λ longer. string_bytes longer
-        ≡ spec.with_left (string_bytes line) tally.now) }
-{
-    with_part(alloc, line, "not started", left_of(tally))
 }
 
 fn with_done(alloc: Global, line: String, tally: &Tally) -> Result<String, AllocError>
     ensures { IfOk result (λ longer. string_bytes longer
-        ≡ spec.with_done (string_bytes line) tally.now) }
+        ≡ spec.with_done (string_bytes line) tally.now.done tally.now.kept) }
 {
     match tally.kept {
         None => with_part(alloc, line, "done", tally.done),
-        Some(kept) => with_kept(alloc, line, kept, tally.done.saturating_sub(kept)),
+        Some(kept) => {
+            let line = with_part(alloc, line, "done and kept", kept)?;
+            with_part(
+                alloc,
+                line,
+                "done and not kept",
+                tally.done.saturating_sub(kept),
+            )
+        }
     }
-}
-
-fn with_kept(alloc: Global, line: String, kept: u64, rest: u64) -> Result<String, AllocError>
-    ensures { IfOk result (λ longer. string_bytes longer
-        ≡ spec.with_kept (string_bytes line) kept rest) }
-{
-    let line = with_part(alloc, line, "done and kept", kept)?;
-    with_part(alloc, line, "done and not kept", rest)
 }
 
 // A line and one number more, if it is not 0.

@@ -1,5 +1,5 @@
 -- What ends the program where there is nothing to plan, and where there is.
-use Rattle.std.proofs.Common.{◌≡◌, ◌++◌, true, false, Bool, List, length, map, Option, None, Some, Result, Ok, Err, IfOk, subst, sym}
+use Rattle.std.proofs.Common.{◌≡◌, ◌++◌, true, false, Bool, List, length, map, Option, None, Some, Result, Ok, Err, IfOk, subst}
 use Rattle.std.proofs.lemmas.Result.{IfOk-weaker}
 use Rattle.std.specs.declared.alloc.AllocError.{AllocError}
 use Rattle.clap.specs.Words.{Text}
@@ -23,7 +23,7 @@ use Rattle.run_given.specs.Caches.{is_twofold, record_of}
 use Rattle.plan_call.specs.Plans.{AreCounted, AreTextsOf, AreWaiting, IsEndOfPlan, IsPlanTold, IsPlanned, lost, paper_of, planned, plans, steps_waiting, stops}
 use Rattle.program_words.specs.RunWords.{RunWish}
 use Rattle.end_words.specs.RunEnds.{place_json}
-use Rattle.run_given.specs.Named.{IsAsked, IsReady, IsUnready, no_record}
+use Rattle.run_given.specs.Named.{IsAsked, IsNotReady, IsReady, no_record, not_ready}
 use Rattle.run_given.specs.Stops.{IsStop}
 use Rattle.end_words.specs.declared.exit.Exit.{Exit}
 use Rattle.end_words.specs.declared.exit.Exit.TheVariants as exits
@@ -44,17 +44,17 @@ pub plan_without_folder : (words : RunWish) (dot : Bool) (path : Text) (answer :
 plan_without_folder words dot path answer is gone = ends_as (ends words dot path) _ answer lost is gone
 
 pub plan_without_given : (here : Text) (words : RunWish) (dot : Bool) (path : Text) (stop : Stop) (answer : Result RunEnd AllocError)
-    → IsStop (IsUnready here words) stop → IfOk answer (λ end. stop ≡ Early end.exit) → IfOk answer (λ end. end.left ≡ None)
+    → IsStop (IsNotReady here words) stop → IfOk answer (λ end. stop ≡ Early end.exit) → IfOk answer (λ end. end.left ≡ None)
     → IfOk answer (λ end. IsEndOfPlan words dot path end.exit)
 plan_without_given here words dot path stop answer is same gone =
-    run_ends_so (ends words dot path) stop answer (stop_so _ _ (λ exit end. stops here end) stop is) same gone
+    run_ends_so (ends words dot path) stop answer (stop_so _ _ (λ exit end. stops here (not_ready end)) stop is) same gone
 
 pub plan_without_record : (here : Text) (words : RunWish) (dot : Bool) (path : Text) (given : Given) (file : Text) (fault : RecordFault) (answer : Result RunEnd AllocError)
-    → IsReady here words given → record_of words ≡ Some file
+    → is_twofold words ≡ false → IsReady here words given → record_of words ≡ Some file
     → IfOk answer (λ end. end.exit ≡ exits.Fault (faults.Unopened file fault)) → IfOk answer (λ end. end.left ≡ None)
     → IfOk answer (λ end. IsEndOfPlan words dot path end.exit)
-plan_without_record here words dot path given file fault answer ready named is gone =
-    ends_as (ends words dot path) _ answer (stops here (no_record given file fault ready named)) is gone
+plan_without_record here words dot path given file fault answer one ready named is gone =
+    ends_as (ends words dot path) _ answer (stops here (no_record given file fault one ready named)) is gone
 
 pub plans_so : (here : Text) (words : RunWish) (dot : Bool) (path : Text) (given : Given) (options : Options) (answer : Result RunEnd AllocError)
     → is_twofold words ≡ false → IsReady here words given → IsAsked here words path options

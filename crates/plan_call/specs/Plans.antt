@@ -3,7 +3,6 @@ use Rattle.std.specs.Prelude.{◌≡◌, ◌++◌, Bool, true, false, List, flat
 use Rattle.clap.specs.Words.{Text}
 use Rattle.document_links.specs.declared.process.Process.{Process}
 use Rattle.job_graph.specs.Words.{Fields, JobPlace}
-use Rattle.plan_checker.specs.Certificate.{IsCertificate}
 use Rattle.plan_checker.specs.Charges.{IsCounted}
 use Rattle.plan_checker.specs.Format.{certificate_text}
 use Rattle.plan_waits.specs.Waiting.{waiting_steps}

@@ -22,9 +22,10 @@ use crate::spawning::{Flying, spawned};
 use crate::storing::store_all;
 use crate::tree::Others;
 use crate::trouble::{Hindrance, Trouble};
+use crate::trusting::Sums;
 use crate::unlisted::{NoListing, Unlisted};
 use crate::world::World;
-use command_line::Launch;
+use command_line::{Launch, Variable};
 use plain_data::{Items, Text};
 use proc_host::{
     ChildEnd, Entry, HostAnswer, HostError, HostFault, HostRequest, fetch_request, store_request,
@@ -37,6 +38,7 @@ pub(crate) fn measure<R: World>(
     rt: &R,
     log: &mut Vec<Entry>,
     places: &mut Places,
+    sums: &mut Sums,
     path: &Text,
 ) -> Result<Measure, HostError>
     ensures logged { log.new.items ≡ log.old.items
@@ -46,7 +48,7 @@ pub(crate) fn measure<R: World>(
 {
     make_room(log)?;
     let request = HostRequest::Measure(path.copied(rt.alloc())?);
-    match measured_twice(rt, places, log.len(), path) {
+    match measured_twice(rt, places, sums, log.len(), path) {
         Ok((measure, noted)) => {
             note(log, request, HostAnswer::Measured(noted));
             Ok(measure)
@@ -83,14 +85,15 @@ pub(crate) fn stage<R: World>(
     told(log, request, HostFault::Stage, outcome)
 }
 
-/// Starts the child of a launch by a launcher under this ticket, whose messages are to be handed on or not where no file takes them. Where it
-/// can't be started, it is told why, as far as the system says so.
+/// Starts the child of a launch by a launcher, which is told what is advised, under this ticket. Its messages are to be handed on or not where no
+/// file takes them. Where it can't be started, it is told why, as far as the system says so.
 pub(crate) fn start<R: World>(
     rt: &R,
     log: &mut Vec<Entry>,
     running: &mut Vec<u64>,
     flying: &mut Vec<Flying<R::Started, R::File>>,
     launcher: &[Text],
+    advice: &[Variable],
     launch: &Launch,
     ticket: u64,
     shows: bool,
@@ -107,7 +110,7 @@ where
 {
     make_room(running)?;
     make_room(flying)?;
-    let child = begin(rt, log, launcher, launch, ticket, shows, unstarted)?;
+    let child = begin(rt, log, launcher, advice, launch, ticket, shows, unstarted)?;
     add(running, ticket);
     add(flying, child);
     Ok(())
@@ -117,6 +120,7 @@ fn begin<R: World>(
     rt: &R,
     log: &mut Vec<Entry>,
     launcher: &[Text],
+    advice: &[Variable],
     launch: &Launch,
     ticket: u64,
     shows: bool,
@@ -131,7 +135,7 @@ where
 {
     make_room(log)?;
     let request = HostRequest::Start(launch.clone_in(rt.alloc())?);
-    match spawned(rt, launcher, launch, ticket, shows) {
+    match spawned(rt, launcher, advice, launch, ticket, shows) {
         Ok(child) => {
             note(log, request, HostAnswer::Started(ticket));
             Ok(child)
@@ -380,7 +384,7 @@ fn listed_or_why<R: World>(
 ) -> Result<Items<Found>, Trouble>
     ensures { IfOk result (λ found. IsTrue (are_paths found)) }
 {
-    let (outcome, met) = match listing_of(rt, folder.as_str(), Others::LeftOut) {
+    let (outcome, met) = match listing_of(rt, folder.as_str(), Others::LeftOut, &mut Sums::read()) {
         Ok(found) => (Ok(found), None),
         Err(NoListing::Met(met)) => (Err(Trouble::Failed), Some(met)),
         Err(NoListing::OutOfMemory) => (Err(Trouble::OutOfMemory), None),
@@ -415,12 +419,13 @@ fn fetched_twice<R: World>(
 fn measured_twice<R: World>(
     rt: &R,
     places: &mut Places,
+    sums: &mut Sums,
     index: usize,
     path: &Text,
 ) -> Result<(Measure, Measure), Trouble>
     ensures { IfOk result (λ pair. pair.0 ≡ pair.1) }
 {
-    let measure = measure_of(rt, path.as_str())?;
+    let measure = measure_of(rt, path.as_str(), sums)?;
     let noted = measure.clone_in(rt.alloc())?;
     places.note(rt.alloc(), path.as_str(), index)?;
     Ok((measure, noted))

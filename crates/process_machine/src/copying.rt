@@ -2,7 +2,6 @@
 
 use crate::identity::names;
 use crate::layout::{joined, make_along};
-use crate::listing::sum_at;
 use crate::making::{
     give_rights_of, has_rights_of, keep_attributes, made_anew, make_folder_as, new_file_in,
     new_folder_in,
@@ -13,6 +12,7 @@ use crate::past::{Known, Past, known_of, name_in};
 use crate::summing::{copy_as_found, is_as_found};
 use crate::tree::{is_folder, is_own_folder};
 use crate::trouble::{Hindrance, Trouble, or_trouble};
+use crate::trusting::{Sums, sum_at};
 use crate::world::World;
 use plain_data::Text;
 use staging::Found;
@@ -64,7 +64,7 @@ fn copy_untold<R: World>(
     target: &str,
     changed: &mut Option<Text>,
 ) -> Result<(), Trouble> {
-    let measure = measure_of(rt, source)?;
+    let measure = measure_of(rt, source, &mut Sums::read())?;
     match known_of(&measure) {
         // Nobody has looked whether what is there may be replaced.
         Some(Known::Folder(_, _)) if is_own_folder(rt, target) => {

@@ -1,6 +1,7 @@
-//! A machine whose children are heard.
+//! A machine whose children are heard, and whose launcher is told of each launch.
 ghost use Rattle.std.specs.Prelude.{◌≡◌};
 
+use crate::advising::Advise;
 use crate::hearing::Hear;
 use crate::machine::Machine;
 use crate::world::World;
@@ -9,19 +10,21 @@ use plain_data::{Items, Text};
 use proc_host::{ChildEnd, Host, HostError, Ticket};
 use staging::{Found, Measure, StagePlan};
 use std::marker::Model;
+use std::mem;
 use std::process::Stdio;
 
-/// A machine, and who hears what its children write to standard error.
+/// A machine, who hears what its children write to standard error, and who says what its launcher is told.
 ///
 /// After `show_messages` each whole line is handed on while the machine waits for a child, and what is left without a line feed at the
 /// end of its child. A file that the launch names for standard error is not heard.
 #[derive(Drop)]
-pub struct Heard<R: World, H: Hear> {
+pub struct Heard<R: World, H: Hear, A: Advise> {
     machine: Machine<R>,
     hearer: H,
+    adviser: A,
 }
 
-impl<R: World, H: Hear> Model for Heard<R, H> {
+impl<R: World, H: Hear, A: Advise> Model for Heard<R, H, A> {
     ghost use Rattle.process_machine.specs.Machine.{MachineState};
     ghost use Rattle.cwl_value.specs.contracts.value.Value as value;
     ghost use Rattle.std.specs.Coded.{codes};
@@ -33,11 +36,15 @@ impl<R: World, H: Hear> Model for Heard<R, H> {
     ghost view = { λ fields. fields.machine };
 }
 
-impl<R: World, H: Hear> Heard<R, H> {
-    pub fn new(machine: Machine<R>, hearer: H) -> Heard<R, H>
+impl<R: World, H: Hear, A: Advise> Heard<R, H, A> {
+    pub fn new(machine: Machine<R>, hearer: H, adviser: A) -> Heard<R, H, A>
         ensures { result ≡ machine }
     {
-        Heard { machine, hearer }
+        Heard {
+            machine,
+            hearer,
+            adviser,
+        }
     }
 
     pub fn machine(&self) -> &Machine<R>
@@ -47,7 +54,7 @@ impl<R: World, H: Hear> Heard<R, H> {
     }
 }
 
-impl<R: World, H: Hear> Host for Heard<R, H>
+impl<R: World, H: Hear, A: Advise> Host for Heard<R, H, A>
 where
     R::File: Into<Stdio>,
 {
@@ -64,7 +71,10 @@ where
     }
 
     fn start(&mut self, launch: &Launch) -> Result<Ticket, HostError> {
-        self.machine.start(launch)
+        let advice = self.adviser.advice(self.machine.alloc(), launch)?;
+        let started = self.machine.start_advised(advice.as_slice(), launch);
+        mem::drop(advice);
+        started
     }
 
     fn collect(&mut self) -> Result<ChildEnd, HostError> {

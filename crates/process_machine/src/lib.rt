@@ -7,6 +7,7 @@
 //! `test_hosts` show it.
 #![tactic(auto)]
 
+mod advising;
 mod archive;
 mod calls;
 mod clearing;
@@ -36,9 +37,11 @@ mod storing;
 mod summing;
 mod tree;
 mod trouble;
+mod trusting;
 mod unlisted;
 mod world;
 
+pub use advising::{Advise, Unadvised};
 pub use heard::Heard;
 pub use hearing::{Deaf, Hear};
 pub use machine::Machine;

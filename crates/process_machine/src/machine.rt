@@ -1,7 +1,7 @@
 //! The host itself.
-ghost use Rattle.std.specs.Prelude.{◌≡◌, ◌++◌, [], IfOk, Contains};
-ghost use Rattle.proc_host.specs.Log.{answer_behind, entries_of, FailsOnlyBy};
-ghost use Rattle.proc_host.specs.Tickets.{without};
+ghost use Rattle.std.specs.Prelude.{◌≡◌, ◌++◌, ◌+◌, [], IfOk, Contains};
+ghost use Rattle.proc_host.specs.Log.{answer_behind, entries_of, FailsOnlyBy, starts};
+ghost use Rattle.proc_host.specs.Tickets.{IsFresh, running_after, without};
 
 use crate::calls;
 use crate::collecting::Killed;
@@ -10,19 +10,21 @@ use crate::missed::Undelivered;
 use crate::past::Places;
 use crate::spawning::Flying;
 use crate::trouble::Hindrance;
+use crate::trusting::Sums;
 use crate::unlisted::Unlisted;
 use crate::world::World;
-use command_line::Launch;
+use command_line::{Launch, Variable};
 use plain_data::{Items, Text};
 use proc_host::{ChildEnd, Entry, Host, HostAnswer, HostError, HostFault, HostRequest, Ticket};
 use staging::{Found, Measure, StagePlan};
+use std::alloc::{AllocError, Global};
 use std::marker::Model;
 use std::mem;
 use std::process::Stdio;
 
 /// A host over real processes and files.
 ///
-/// It writes below its work folder, its archive and its output folder, and nowhere else. A child that nobody waits for any more
+/// It writes below its work folder, its archive and its output folder, and the file of times that are trusted, and nowhere else. A child that nobody waits for any more
 /// runs on.
 #[derive(Drop)]
 pub struct Machine<R: World> {
@@ -47,6 +49,8 @@ pub struct Machine<R: World> {
     guarded: Items<Text>,
     // the words that stand before each command
     launcher: Items<Text>,
+    // how the sums of what is measured are come by
+    sums: Sums,
     // of the last stage or delivery
     hindered: Option<Undelivered>,
     // of the last start
@@ -94,6 +98,7 @@ impl<R: World> Machine<R> {
             keeps: false,
             guarded: Items::new(alloc),
             launcher: Items::new(alloc),
+            sums: Sums::read(),
             hindered: None,
             unstarted: None,
             unlisted: None,
@@ -125,11 +130,27 @@ impl<R: World> Machine<R> {
     }
 
     /// From now on these words stand before those of each launch, so the first of them names the program that is started: it is to start the
-    /// command behind it. They take the place of those that stood there before; without words each command is started itself.
+    /// command behind it. They take the place of those that stood there before; without words each command is started itself. What a `Heard`
+    /// tells the launcher, the command behind it does not see.
     pub fn launch_by(&mut self, words: Items<Text>)
         ensures { self.new ≡ record self.old { launcher = words } }
     {
         mem::drop(mem::replace(&mut self.launcher, words));
+    }
+
+    /// From now on a file that is measured is not read if its device, its number, its size and its times are as an earlier machine noted them
+    /// with its sum in the table of this file. What is read is noted in its place.
+    pub fn trust_times(&mut self, file: Text) -> Result<(), AllocError>
+        ensures { self.new ≡ self.old }
+    {
+        let sums = Sums::trusting(&self.rt, file)?;
+        mem::drop(mem::replace(&mut self.sums, sums));
+        Ok(())
+    }
+
+    /// Writes the table of times that are trusted, if they are, and says whether that could be done.
+    pub fn keep_times(&self) -> bool {
+        self.sums.keep(&self.rt).is_ok()
     }
 
     /// The words that stand before those of each launch.
@@ -179,6 +200,11 @@ impl<R: World> Machine<R> {
         self.running.as_slice()
     }
 
+    /// The memory that its calls take.
+    pub(crate) fn alloc(&self) -> Global {
+        self.rt.alloc()
+    }
+
     /// Collects, as `Host::collect` says, and hands on what the children write meanwhile.
     pub(crate) fn collect_heard<H: Hear>(&mut self, hearer: &mut H) -> Result<ChildEnd, HostError>
         ensures logged { self.new.log ≡ self.old.log
@@ -199,6 +225,42 @@ impl<R: World> Machine<R> {
     }
 }
 
+impl<R: World> Machine<R>
+where
+    R::File: Into<Stdio>,
+{
+    /// Starts a child, as `Host::start` says, whose launcher is told what is advised.
+    pub(crate) fn start_advised(
+        &mut self,
+        advice: &[Variable],
+        launch: &Launch,
+    ) -> Result<Ticket, HostError>
+        ensures logged { self.new.log ≡ self.old.log
+            ++ entries_of (HostRequest.Start launch.now)
+            (answer_behind (λ ticket. HostAnswer.Started ticket) result) }
+        ensures own { FailsOnlyBy HostFault.Start result }
+        ensures fresh { IfOk result (λ ticket. IsFresh ticket self.old.running) }
+        ensures started { self.new.running ≡ running_after self.old.running result }
+        ensures numbered { IfOk result (λ ticket. ticket ≡ starts self.old.log + 1) }
+    {
+        let ticket = self.started + 1;
+        calls::start(
+            &self.rt,
+            &mut self.log,
+            &mut self.running,
+            &mut self.flying,
+            self.launcher.as_slice(),
+            advice,
+            launch,
+            ticket,
+            self.shows,
+            &mut self.unstarted,
+        )?;
+        self.started = ticket;
+        Ok(Ticket::new(ticket))
+    }
+}
+
 impl<R: World> Host for Machine<R>
 where
     R::File: Into<Stdio>,
@@ -208,7 +270,13 @@ where
     ghost running = { λ state. state.running };
 
     fn measure(&mut self, path: &Text) -> Result<Measure, HostError> {
-        calls::measure(&self.rt, &mut self.log, &mut self.places, path)
+        calls::measure(
+            &self.rt,
+            &mut self.log,
+            &mut self.places,
+            &mut self.sums,
+            path,
+        )
     }
 
     fn stage(&mut self, plan: &StagePlan, number: u64) -> Result<(), HostError> {
@@ -224,20 +292,7 @@ where
     }
 
     fn start(&mut self, launch: &Launch) -> Result<Ticket, HostError> {
-        let ticket = self.started + 1;
-        calls::start(
-            &self.rt,
-            &mut self.log,
-            &mut self.running,
-            &mut self.flying,
-            self.launcher.as_slice(),
-            launch,
-            ticket,
-            self.shows,
-            &mut self.unstarted,
-        )?;
-        self.started = ticket;
-        Ok(Ticket::new(ticket))
+        self.start_advised(&[], launch)
     }
 
     fn collect(&mut self) -> Result<ChildEnd, HostError> {

@@ -1,8 +1,9 @@
 //! What is at a path.
 
-use crate::listing::{listing_of, sum_at};
+use crate::listing::listing_of;
 use crate::tree::Others;
 use crate::trouble::Trouble;
+use crate::trusting::Sums;
 use crate::world::World;
 use file_values::FileSum;
 use staging::Measure;
@@ -13,18 +14,27 @@ use std::{fs, io};
 /// taken as what it points to.
 ///
 /// A link that leads nowhere, a pipe or a device, and what can't be read or listed are trouble.
-pub(crate) fn measure_of<R: World>(rt: &R, path: &str) -> Result<Measure, Trouble> {
+pub(crate) fn measure_of<R: World>(
+    rt: &R,
+    path: &str,
+    sums: &mut Sums,
+) -> Result<Measure, Trouble> {
     match fs::metadata(rt, path) {
-        Ok(metadata) => measure_as(rt, path, metadata.file_type()),
+        Ok(metadata) => measure_as(rt, path, metadata.file_type(), sums),
         Err(error) => without_metadata(rt, path, &error),
     }
 }
 
-fn measure_as<R: World>(rt: &R, path: &str, kind: FileType) -> Result<Measure, Trouble> {
+fn measure_as<R: World>(
+    rt: &R,
+    path: &str,
+    kind: FileType,
+    sums: &mut Sums,
+) -> Result<Measure, Trouble> {
     if kind.is_dir() {
-        Ok(Measure::Folder(listing_of(rt, path, Others::Refused)?))
+        Ok(Measure::Folder(listing_of(rt, path, Others::Refused, sums)?))
     } else if kind.is_file() {
-        let FileSum { sum, size } = sum_at(rt, path)?;
+        let FileSum { sum, size } = sums.sum_at(rt, path)?;
         Ok(Measure::File { size, sum })
     } else {
         Err(Trouble::Failed)

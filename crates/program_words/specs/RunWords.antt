@@ -24,7 +24,7 @@ abbrev pub numbered_rule : Text → ℕ → ℕ → Rule
 numbered_rule id least most = record (named_rule id) { parser = Some (Unsigned least most) }
 
 -- the options of each run, and of each plan of one: its folders, how many jobs run side by side, how often one is started again and what stands before
--- its command, what is kept and how many bytes of it, and what a load costs
+-- its command, what is kept, how many bytes of it, and what is not read again, and what a load costs
 abbrev pub folder_rules : List Rule
 folder_rules = named_rule (codes "work") ∷ (named_rule (codes "outdir") ∷ [])
 
@@ -34,8 +34,11 @@ number_rules = numbered_rule (codes "slots") 1 64 ∷ (numbered_rule (codes "ret
 abbrev pub job_rules : List Rule
 job_rules = number_rules ++ named_rule (codes "launcher") ∷ []
 
+abbrev pub cache_rules : List Rule
+cache_rules = named_rule (codes "record") ∷ (named_rule (codes "archive") ∷ (named_rule (codes "cache") ∷ (numbered_rule (codes "budget") 0 9223372036854775807 ∷ [])))
+
 abbrev pub store_rules : List Rule
-store_rules = named_rule (codes "record") ∷ (named_rule (codes "archive") ∷ (named_rule (codes "cache") ∷ (numbered_rule (codes "budget") 0 9223372036854775807 ∷ [])))
+store_rules = cache_rules ++ flag_rule (codes "trust-times") ∷ []
 
 abbrev pub cost_rules : List Rule
 cost_rules = numbered_rule (codes "base") 0 1000000000000 ∷ (numbered_rule (codes "rate") 1 1000000000000 ∷ [])
@@ -72,8 +75,8 @@ telling_in rows =
     else Nothing
 
 -- the document, the input object's file where one is named, the two folders, the texts of the two numbers and of the launcher that are given, the
--- record's file, the archive's folder and a cache's where they are named, the texts of how many bytes are kept and of what a load costs where they are
--- given, whether the work folder is to stay, and whether it is to stay after a failure, how to tell of the jobs, what to show, and whether to say in
+-- record's file, the archive's folder and a cache's where they are named, the text of how many bytes are kept where it is given, whether times are
+-- trusted, the texts of what a load costs where they are given, whether the work folder is to stay, and whether it is to stay after a failure, how to tell of the jobs, what to show, and whether to say in
 -- words what went wrong
 pub record RunWish : Type 0 where
   pub document : Text
@@ -87,6 +90,7 @@ pub record RunWish : Type 0 where
   pub archive : Option Text
   pub cache : Option Text
   pub budget : Option Text
+  pub trust_times : Bool
   pub base : Option Text
   pub rate : Option Text
   pub keep : Bool
@@ -109,6 +113,7 @@ run_wish rows = record {
   archive = first_of (codes "archive") rows;
   cache = first_of (codes "cache") rows;
   budget = first_of (codes "budget") rows;
+  trust_times = is_given (codes "trust-times") rows;
   base = first_of (codes "base") rows;
   rate = first_of (codes "rate") rows;
   keep = is_given (codes "keep") rows;
@@ -131,6 +136,7 @@ wish_of_run words = record {
   archive = option_map (λ s. s.now) words.archive;
   cache = option_map (λ s. s.now) words.cache;
   budget = option_map (λ s. s.now) words.budget;
+  trust_times = words.trust_times;
   base = option_map (λ s. s.now) words.base;
   rate = option_map (λ s. s.now) words.rate;
   keep = words.keep;

@@ -2,7 +2,7 @@ ghost use Rattle.std.specs.Prelude.{◌≡◌, ◌≤◌, ◌^◌, ◌++◌, IfO
 ghost use Rattle.std.specs.List.{fold};
 ghost use Rattle.clap.specs.Words.{app_of, found_of, kind_of, new_app, rows_of, rule_of, with_rule};
 ghost use Rattle.program_words.specs.Flags.{IsLocal};
-ghost use Rattle.program_words.specs.RunWords.{IsBudget, IsChosen, folder_rules, input_rules, job_rules, keeping_rules, named_rule, numbered_rule, placed_rule, run_command, run_rules, run_wish, shared_rules, store_rules, telling_in, telling_rules, wish_of_run, number_rules};
+ghost use Rattle.program_words.specs.RunWords.{IsBudget, IsChosen, cache_rules, folder_rules, input_rules, job_rules, keeping_rules, named_rule, numbered_rule, placed_rule, run_command, run_rules, run_wish, shared_rules, store_rules, telling_in, telling_rules, wish_of_run, number_rules};
 
 use crate::flags::{RUN_END, is_given, is_wanted, with_flag, with_flags};
 use crate::shows::{Shows, shows_of};
@@ -52,6 +52,9 @@ const CACHE_HELP: &str =
 
 const BUDGET_HELP: &str =
     "How many bytes of files the archive has at most, also as 50G: k, M, G and T are powers of 1,000; what was used longest ago goes first";
+
+const TRUST_HELP: &str =
+    "Don't read an input file again whose times and size are those of an earlier run with this record, or cache, and this option";
 
 const BASE_HELP: &str =
     "What it costs to load the files of any job, from 0 to 10^12 [1]; by `--prefer-kept` this is 0 and the rate 10^12, so that what is kept is loaded";
@@ -104,6 +107,8 @@ pub struct RunWords<'a> {
     pub cache: Option<&'a str>,
     /// How many bytes of files are kept; without it all are.
     pub budget: Option<&'a str>,
+    /// Whether the sum of an input file is taken from an earlier run if its times and its size are as they were then.
+    pub trust_times: bool,
     /// What a load costs, and how many bytes cost 1 more.
     pub base: Option<&'a str>,
     pub rate: Option<&'a str>,
@@ -254,7 +259,7 @@ fn with_jobs<'a>(alloc: Global, command: Command<'a>) -> Result<Command<'a>, Err
 fn with_cache<'a>(alloc: Global, command: Command<'a>) -> Result<Command<'a>, Error>
     requires { IsLocal command }
     ensures ok { IfOk result (λ whole. app_of whole
-        ≡ fold with_rule (app_of command.entry) (folder_rules ++ job_rules ++ store_rules)) }
+        ≡ fold with_rule (app_of command.entry) (folder_rules ++ job_rules ++ cache_rules)) }
     ensures local { IfOk result IsLocal }
     ensures err { IfErr result (λ e. kind_of e ≡ ErrorKind.OutOfMemory) }
 {
@@ -265,6 +270,18 @@ fn with_cache<'a>(alloc: Global, command: Command<'a>) -> Result<Command<'a>, Er
     with_numbered(alloc, command, "budget", 0, MOST_BUDGET, BUDGET_HELP)
 }
 
+// And with what is not read again.
+fn with_store<'a>(alloc: Global, command: Command<'a>) -> Result<Command<'a>, Error>
+    requires { IsLocal command }
+    ensures ok { IfOk result (λ whole. app_of whole
+        ≡ fold with_rule (app_of command.entry) (folder_rules ++ job_rules ++ store_rules)) }
+    ensures local { IfOk result IsLocal }
+    ensures err { IfErr result (λ e. kind_of e ≡ ErrorKind.OutOfMemory) }
+{
+    let command = with_cache(alloc, command)?;
+    with_flag(alloc, command, "trust-times", TRUST_HELP)
+}
+
 /// A command with the options of each run, and of each plan of one.
 pub fn with_costs<'a>(alloc: Global, command: Command<'a>) -> Result<Command<'a>, Error>
     requires { IsLocal command }
@@ -273,7 +290,7 @@ pub fn with_costs<'a>(alloc: Global, command: Command<'a>) -> Result<Command<'a>
     ensures local { IfOk result IsLocal }
     ensures err { IfErr result (λ e. kind_of e ≡ ErrorKind.OutOfMemory) }
 {
-    let command = with_cache(alloc, command)?;
+    let command = with_store(alloc, command)?;
     let command = with_numbered(alloc, command, "base", 0, MOST_COST, BASE_HELP)?;
     with_numbered(alloc, command, "rate", LEAST_RATE, MOST_COST, RATE_HELP)
 }
@@ -359,6 +376,7 @@ pub fn run_words<'a>(words: &ArgMatches<'a>) -> RunWords<'a>
         archive: words.get_str("archive"),
         cache: words.get_str("cache"),
         budget: words.get_str("budget"),
+        trust_times: is_given(words, "trust-times"),
         base: words.get_str("base"),
         rate: words.get_str("rate"),
         keep: is_given(words, "keep"),

@@ -1,5 +1,5 @@
 -- What `record --check` says of a cache, and which folders `--remove` takes out of it: of those that no archived row has.
-use Rattle.std.specs.Prelude.{◌≡◌, ◌⊎◌, codes, Bool, List, [], ◌∷◌, ◌++◌, IsTrue}
+use Rattle.std.specs.Prelude.{codes, Bool, List, [], ◌∷◌, ◌++◌, IsTrue}
 use Rattle.clap.specs.Words.{Text}
 use Rattle.job_rows.specs.declared.archive.Archive.{Archive}
 use Rattle.job_record.specs.declared.fault.RecordFault.TheVariants.{NotARecord}

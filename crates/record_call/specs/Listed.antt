@@ -1,5 +1,5 @@
 -- What `record --long` prints: each row's line, with the number of its last use, and what it is of.
-use Rattle.std.specs.Prelude.{◌≡◌, ℕ, ◌<◌, List, ◌++◌, codes, decimal, flat_map, map, Option, Some, None}
+use Rattle.std.specs.Prelude.{ℕ, ◌<◌, List, ◌++◌, codes, decimal, flat_map, map, Option, Some, None}
 use Rattle.plain_data.specs.ByName.{times, value_at}
 use Rattle.job_rows.specs.declared.archive.Archive.{Archive}
 use Rattle.job_rows.specs.declared.row.Row.{Row}

@@ -15,8 +15,8 @@ use Rattle.run_given.specs.Caches.{is_twofold, record_of}
 use Rattle.end_words.specs.Leaving.{left_of}
 use Rattle.program_words.specs.RunWords.{IsBudget, RunWish}
 use Rattle.run_given.specs.Paths.{from_root}
-use Rattle.run_given.specs.Named.{IsAsked, IsReady, IsUnready, no_record}
-use Rattle.run_call.specs.Runs.{IsEndLike, IsEndOfRun, IsRanOver, IsRunExit, in_file, in_memory, lost, no_outdir, no_work, runs, stops, unready}
+use Rattle.run_given.specs.Named.{IsAsked, IsNotReady, IsReady, no_record, not_ready}
+use Rattle.run_call.specs.Runs.{IsEndLike, IsEndOfRun, IsRanOver, IsRunExit, in_file, in_memory, lost, no_outdir, no_work, runs, unready}
 use Rattle.run_call.specs.Seen.{IsUnasked, Seen, new_memory, seen, seen_memory}
 use Rattle.run_given.specs.Stops.{IsStop}
 use Rattle.end_words.specs.declared.exit.Exit.{Exit}
@@ -35,17 +35,17 @@ module _ {R K L : Type 0} (records : RecordsOf R K L) (rows : RowsOf K) (rt : R)
   without_folder words path answer is gone = ends_as (IsEndOfRun records rows rt words path) _ answer lost is gone
 
   pub without_given : (here : Text) (words : RunWish) (path : Text) (stop : Stop) (answer : Result RunEnd AllocError)
-      → IsStop (IsUnready here words) stop → IfOk answer (λ end. stop ≡ Early end.exit) → IfOk answer (λ end. end.left ≡ None)
+      → IsStop (IsNotReady here words) stop → IfOk answer (λ end. stop ≡ Early end.exit) → IfOk answer (λ end. end.left ≡ None)
       → IfOk answer (λ end. IsEndOfRun records rows rt words path end.exit end.left)
   without_given here words path stop answer is same gone =
-      run_ends_so (IsEndOfRun records rows rt words path) stop answer (stop_so _ _ (λ exit end. unready here end) stop is) same gone
+      run_ends_so (IsEndOfRun records rows rt words path) stop answer (stop_so _ _ (λ exit end. unready here (not_ready end)) stop is) same gone
 
   pub without_record : (here : Text) (words : RunWish) (path : Text) (given : Given) (file : Text) (fault : RecordFault) (answer : Result RunEnd AllocError)
-      → IsReady here words given → record_of words ≡ Some file
+      → is_twofold words ≡ false → IsReady here words given → record_of words ≡ Some file
       → IfOk answer (λ end. end.exit ≡ exits.Fault (faults.Unopened file fault)) → IfOk answer (λ end. end.left ≡ None)
       → IfOk answer (λ end. IsEndOfRun records rows rt words path end.exit end.left)
-  without_record here words path given file fault answer ready named is gone =
-      ends_as (IsEndOfRun records rows rt words path) _ answer (unready here (no_record given file fault ready named)) is gone
+  without_record here words path given file fault answer one ready named is gone =
+      ends_as (IsEndOfRun records rows rt words path) _ answer (unready here (no_record given file fault one ready named)) is gone
 
   -- a run over the record of the file that is named, or over a copy of it
   pub over_file : (words : RunWish) (path file : Text) (budget : Option ℕ) (old new : K) (closed : L) (answer : Result RunEnd AllocError)
@@ -87,7 +87,7 @@ pub without_work : (here : Text) (words : RunWish) (path : Text) (given : Given)
     → IfOk answer (λ end. IsRunExit words path same same end.exit end.left)
 without_work here words path given work same answer ready named is gone =
     hindered (IsRunExit words path same same) (λ why. exits.Fault (faults.Work work why)) answer
-    (λ why. subst (λ (w : Text). IsRunExit words path same same (exits.Fault (faults.Work w why)) None) (sym named) (stops here (no_work given why ready) (unasked same)))
+    (λ why. subst (λ (w : Text). IsRunExit words path same same (exits.Fault (faults.Work w why)) None) (sym named) (no_work here given why ready (unasked same)))
     is gone
 
 pub without_outdir : (here : Text) (words : RunWish) (path : Text) (given : Given) (outdir : Text) (same : Seen) (answer : Result RunEnd AllocError)
@@ -96,7 +96,7 @@ pub without_outdir : (here : Text) (words : RunWish) (path : Text) (given : Give
     → IfOk answer (λ end. IsRunExit words path same same end.exit end.left)
 without_outdir here words path given outdir same answer ready holds named is gone =
     hindered (IsRunExit words path same same) (λ why. exits.Fault (faults.Outdir outdir why)) answer
-    (λ why. subst (λ (o : Text). IsRunExit words path same same (exits.Fault (faults.Outdir o why)) None) (sym named) (stops here (no_outdir given why ready holds) (unasked same)))
+    (λ why. subst (λ (o : Text). IsRunExit words path same same (exits.Fault (faults.Outdir o why)) None) (sym named) (no_outdir here given why ready holds (unasked same)))
     is gone
 
 -- a run's end, with what was noted of it

@@ -29,7 +29,7 @@ use Rattle.end_words.specs.declared.run_end.RunEnd.{RunEnd}
 use Rattle.std.specs.declared.alloc.AllocError.{AllocError}
 use Rattle.run_given.specs.declared.given.Given.{Given}
 use Rattle.program_words.specs.declared.telling.Telling.{Telling}
-use Rattle.program_words.specs.declared.telling.Telling.TheVariants.{Nothing, Lines, OneLine, Objects}
+use Rattle.program_words.specs.declared.telling.Telling.TheVariants.{Nothing}
 use Rattle.end_words.specs.Told.{Held}
 
 -- The log of a host, and that of a record, gained a run of this process on these inputs. What the record answered is by the rows that it held
@@ -44,14 +44,6 @@ pub data IsRanOver (process : Process) (inputs : Fields) (options : Options) (ol
 abbrev pub IsRan : (process : Process) (inputs : Fields) (options : Options) → Exit → Type 0
 IsRan process inputs options exit = (new : MemoryState) × IsRanOver process inputs options (seen_memory (new_memory None)) (seen_memory new) exit
 
--- then the work folder can't be made, or last the output folder can't be used, which is looked at where an output can be or hold a File or
--- Directory
-pub data IsStopExit (here : Text) (words : RunWish) : Exit → Type 0 where
-  no_work : (given : Given) (why : WorkTrouble) → IsReady here words given →
-      IsStopExit here words (exits.Fault (faults.Work (from_root here words.work) why))
-  no_outdir : (given : Given) (why : Hindrance) → IsReady here words given → can_hold_files given.process ≡ true →
-      IsStopExit here words (exits.Fault (faults.Outdir (from_root here words.outdir) why))
-
 -- ---- how the words of `run` end the program
 
 -- this end is that of a run that came to one: what is said beside it may be more
@@ -59,12 +51,17 @@ abbrev pub IsEndLike : Result RunEnd AllocError → Exit → (left : Option Text
 IsEndLike (Err error) exit left = ⊥
 IsEndLike (Ok end) exit left = (exit ≡ end.exit) × (left ≡ end.left)
 
--- a run of the named process on the named inputs over this record, or none, and then the record was not asked; the work folder, where it stays
+-- a run of the named process on the named inputs over this record, and the work folder, where it stays
 pub data IsRunExit (words : RunWish) (path : Text) (old new : Seen) : Exit → (left : Option Text) → Type 0 where
   runs : {exit : Exit} (here : Text) (given : Given) (options : Options) → IsReady here words given →
       IsAsked here words path options → IsRanOver given.process given.inputs options old new exit →
       IsRunExit words path old new exit (left_of words exit (from_root here words.work))
-  stops : {exit : Exit} (here : Text) → IsStopExit here words exit → IsUnasked old new → IsRunExit words path old new exit None
+  -- or none, and then the record was not asked: the work folder can't be made
+  no_work : (here : Text) (given : Given) (why : WorkTrouble) → IsReady here words given → IsUnasked old new →
+      IsRunExit words path old new (exits.Fault (faults.Work (from_root here words.work) why)) None
+  -- or last the output folder can't be used, which is looked at where an output can be or hold a File or Directory
+  no_outdir : (here : Text) (given : Given) (why : Hindrance) → IsReady here words given → can_hold_files given.process ≡ true →
+      IsUnasked old new → IsRunExit words path old new (exits.Fault (faults.Outdir (from_root here words.outdir) why)) None
 
 module _ {R K L : Type 0} (records : RecordsOf R K L) (rows : RowsOf K) (rt : R) where
   -- How the words of `run` end the program: over the record that was opened of the file that they name, of which nothing was asked before, and
@@ -85,6 +82,4 @@ module _ {R K L : Type 0} (records : RecordsOf R K L) (rows : RowsOf K) (rt : R)
 -- what the errors take before the end is said: nothing where no words want the jobs to be told of
 abbrev pub IsRunTold : Telling → (err err_run : Held) → Type 0
 IsRunTold Nothing err err_run = err_run ≡ err
-IsRunTold Lines err err_run = ⊤
-IsRunTold OneLine err err_run = ⊤
-IsRunTold Objects err err_run = ⊤
+IsRunTold telling err err_run = ⊤

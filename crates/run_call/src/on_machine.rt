@@ -16,7 +16,7 @@ use run_core::Options;
 use run_facts::KeyParts;
 use run_given::{Call, Given, Places};
 use run_setup::{guarded_machine, memory_of, options_of};
-use run_watch::{Jobs, Memory, Speaker, TakeNear, Voice, noted};
+use run_watch::{Adviser, Asked, Jobs, Memory, Speaker, TakeNear, Voice, noted};
 use std::alloc::AllocError;
 use std::cell::RefCell;
 use std::io::Write;
@@ -71,8 +71,8 @@ where
 {
     match words.telling {
         Telling::Nothing => {
-            let (host, memory) = (Heard::new(host, Deaf), memory_of(words, recorded));
-            ended(rt, host, given, options, &mut Silent, memory, rows)
+            let memory = memory_of(words, recorded);
+            ended(rt, host, Deaf, given, options, &mut Silent, memory, rows)
         }
         Telling::Lines => {
             host.show_messages();
@@ -104,8 +104,8 @@ where
     ensures { IfOk result (λ end. IsRanOver given.now.process given.now.inputs options
         (seen K.Record rows.old) (seen K.Record rows.new) end.exit) }
 {
-    let (host, memory) = (Heard::new(host, Deaf), memory_of(words, &[]));
-    let end = ended(rt, host, given, options, &mut teller, memory, rows);
+    let memory = memory_of(words, &[]);
+    let end = ended(rt, host, Deaf, given, options, &mut teller, memory, rows);
     teller.finish(counted_in(words, &end));
     mem::drop(teller);
     end
@@ -138,9 +138,18 @@ where
         (seen K.Record rows.old) (seen K.Record rows.new) end.exit) }
 {
     let voice = RefCell::new(Voice::new(rt.alloc(), teller));
-    let host = Heard::new(host, Speaker::new(&voice));
+    let hearer = Speaker::new(&voice);
     let mut listener = Speaker::new(&voice);
-    let end = ended(rt, host, given, options, &mut listener, memory, rows);
+    let end = ended(
+        rt,
+        host,
+        hearer,
+        given,
+        options,
+        &mut listener,
+        memory,
+        rows,
+    );
     mem::drop(listener);
     mem::drop(voice);
     end
@@ -148,7 +157,8 @@ where
 
 fn ended<R: World, H: Hear + Drop, K: Record, L: Listen + TakeNear>(
     rt: &R,
-    mut host: Heard<R, H>,
+    host: Machine<R>,
+    hearer: H,
     given: &Given,
     options: Options,
     listener: &mut L,
@@ -163,7 +173,13 @@ where
     ensures { IfOk result (λ end. IsRanOver given.now.process given.now.inputs options
         (seen K.Record rows.old) (seen K.Record rows.new) end.exit) }
 {
-    let mut watched = Watched(Jobs::new(rt, listener, memory));
+    let asked = Asked::new(rt.alloc(), &given.hints);
+    let mut host = Heard::new(host, hearer, Adviser::new(&asked));
+    let jobs = Jobs::new(rt, listener, memory);
+    let mut watched = Watched {
+        jobs,
+        asked: &asked,
+    };
     let report = run(
         rt.alloc(),
         &mut host,
@@ -174,10 +190,20 @@ where
         &mut watched,
     );
     let exit = exit_of_run(rt.alloc(), host.machine().log(), report);
-    let savings = savings_of(&exit, &mut watched.0);
-    let end = noted(rt, host.machine(), given, watched.0.traces(), exit, savings);
+    let savings = savings_of(&exit, &mut watched.jobs);
+    let end = noted(
+        rt,
+        host.machine(),
+        given,
+        watched.jobs.traces(),
+        exit,
+        savings,
+    );
+    // Times that can't be kept are read anew by the next run.
+    let _kept = host.machine().keep_times();
     mem::drop(watched);
     mem::drop(host);
+    mem::drop(asked);
     end
 }
 

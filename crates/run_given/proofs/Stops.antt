@@ -17,7 +17,8 @@ use Rattle.file_values.specs.Resolved.{resolved}
 use Rattle.job_graph.specs.Words.{Fields}
 use Rattle.program_words.specs.RunWords.{RunWish}
 use Rattle.run_given.specs.Paths.{IsAt}
-use Rattle.run_given.specs.Named.{IsInputsText, IsInputsUnread, IsInputsUrl, IsNamedInputs, IsNamedProcess, IsNoInputs, IsNoProcess, IsRead, document_unread, document_wrong, inputs_unread, inputs_wrong}
+use Rattle.resource_hints.specs.Hints.{Asked}
+use Rattle.run_given.specs.Named.{AreHinted, IsHinted, IsInputsText, IsInputsUnread, IsInputsUrl, IsNamedInputs, IsNamedProcess, IsNoInputs, IsNoProcess, IsRead, document_unread, document_wrong, inputs_unread, inputs_wrong}
 use Rattle.run_given.specs.Sources.{IsAbsent, IsAccepted, IsDocumentStop, IsInputs, IsInputsStop, IsOfDocuments, bad_document, no_object, too_many}
 use Rattle.run_given.specs.Stops.{IsStop, IsUnread}
 use Rattle.end_words.specs.declared.exit.Exit.{Exit}
@@ -79,11 +80,21 @@ pub read_inputs : {T : Type 0} (bytes_of : T → List ℕ) (given : Option Text)
 read_inputs bytes_of given name answer named short =
     IfOk-weaker answer _ _ (λ t s. subst (λ (n : Option Text). IsInputsText n (bytes_of t)) (sym named) s) short
 
-pub named_process : (here : Text) (words : RunWish) (bytes : List ℕ) (base : Parts) (answer : Result Process Stop)
-    → IsRead bytes → IsAt here words.document base → IfOk answer (λ process. (docs : Documents) × IsAccepted bytes base docs process)
+-- the process that documents give, with what their hints ask for
+abbrev pub Gives : (bytes : List ℕ) (base : Parts) (launcher : Option Text) → Asked → Process → Type 0
+Gives bytes base launcher hints process = (docs : Documents) × IsAccepted bytes base docs process × IsHinted launcher bytes base docs hints
+
+pub named_process : (here : Text) (words : RunWish) (bytes : List ℕ) (base : Parts) (hints : Asked) (answer : Result Process Stop)
+    → IsRead bytes → IsAt here words.document base → IfOk answer (Gives bytes base words.launcher hints)
     → IfOk answer (IsNamedProcess here words)
-named_process here words bytes base answer short at accepted =
-    IfOk-weaker answer _ _ (λ process p. (bytes, base, p.0, short, at, p.1)) accepted
+named_process here words bytes base hints answer short at gives =
+    IfOk-weaker answer _ _ (λ process p. (bytes, base, p.0, short, at, p.1)) gives
+
+pub hinted_process : (here : Text) (words : RunWish) (bytes : List ℕ) (base : Parts) (hints : Asked) (answer : Result Process Stop)
+    → IsRead bytes → IsAt here words.document base → IfOk answer (Gives bytes base words.launcher hints)
+    → IfOk answer (λ process. AreHinted here words process hints)
+hinted_process here words bytes base hints answer short at gives =
+    IfOk-weaker answer _ _ (λ process p. (bytes, base, p.0, short, at, p.1, p.2)) gives
 
 pub no_named_process : {T : Type 0} (here : Text) (words : RunWish) (bytes : List ℕ) (base : Parts) (answer : Result T Stop)
     → IsRead bytes → IsAt here words.document base → IfErr answer (IsStop (λ exit. (docs : Documents) × IsDocumentStop bytes base docs exit))

@@ -1,5 +1,5 @@
 -- The record and the archive that the words of `run` name: their own, or those of a cache.
-use Rattle.std.specs.Prelude.{Bool, ◌&&◌, ◌||◌, Option, Some, None, is_some, ◌++◌, codes}
+use Rattle.std.specs.Prelude.{Bool, ◌&&◌, ◌||◌, Option, Some, None, is_some, option_map, ◌++◌, codes, if◌then◌else◌}
 use Rattle.clap.specs.Words.{Text}
 use Rattle.program_words.specs.RunWords.{RunWish}
 
@@ -15,6 +15,10 @@ kept_in None name named = named
 -- the record's file
 abbrev pub record_of : RunWish → Option Text
 record_of words = kept_in words.cache (codes "jobs.db") words.record_file
+
+-- the file of times that are trusted, beside the record
+abbrev pub times_of : RunWish → Option Text
+times_of words = if words.trust_times then option_map (λ file. file ++ codes ".times") (record_of words) else None
 
 -- the archive's folder
 abbrev pub archive_of : RunWish → Option Text

@@ -7,7 +7,7 @@ use plain_data::Text;
 use process_machine::World;
 use program_words::RunWords;
 use std::alloc::{AllocError, Global};
-use std::fs;
+use std::{fs, mem};
 
 /// The record's file in a cache.
 pub const RECORD: &str = "jobs.db";
@@ -43,6 +43,23 @@ pub fn record_of(alloc: Global, words: &RunWords) -> Result<Option<Text>, AllocE
     ensures { IfOk result (λ file. file ≡ spec.record_of (wish_of_run words.now)) }
 {
     kept_in(alloc, words.cache, RECORD, words.record_file)
+}
+
+/// The file of the times that are trusted, if they are: it stands beside the record.
+pub fn times_of(alloc: Global, words: &RunWords) -> Result<Option<Text>, AllocError>
+    ensures { IfOk result (λ file. file ≡ spec.times_of (wish_of_run words.now)) }
+{
+    if !words.trust_times {
+        return Ok(None);
+    }
+    match record_of(alloc, words)? {
+        None => Ok(None),
+        Some(file) => {
+            let times = format!(in alloc; "{file}.times");
+            mem::drop(file);
+            Ok(Some(Text::from_string(times?)))
+        }
+    }
 }
 
 /// The folder that keeps the files of jobs, if one does.

@@ -2,7 +2,7 @@
 ghost use Rattle.std.specs.Prelude.{◌≡◌, false, IfErr, IfOk, OnOk};
 ghost use Rattle.program_words.specs.RunWords.{wish_of_run};
 ghost use Rattle.run_given.specs.Caches as spec;
-ghost use Rattle.run_given.specs.Named.{IsNamedProcess, IsNotGiven, IsReady, IsUnready};
+ghost use Rattle.run_given.specs.Named.{AreHinted, IsNamedProcess, IsNotGiven, IsNotReady, IsReady};
 ghost use Rattle.run_given.specs.Stops.{IsStop};
 
 use crate::caches::is_twofold;
@@ -14,6 +14,7 @@ use end_words::{Exit, Fault};
 use plain_data::{Items, Keyed, Text};
 use process_machine::World;
 use program_words::RunWords;
+use resource_hints::Resources;
 use std::alloc::{AllocError, Global};
 use std::mem;
 
@@ -25,21 +26,32 @@ pub struct Call<'a> {
     pub path: &'a str,
 }
 
-/// What is run: an accepted process, its input object, and the files of the documents that the process leads to.
+/// What is run: an accepted process, its input object, the files of the documents that the process leads to, and what their hints ask of
+/// launchers, if there is one.
 #[derive(Drop)]
 pub struct Given {
     pub process: Process,
     pub inputs: Keyed<Value>,
     pub files: Items<Text>,
+    pub hints: Keyed<Resources>,
 }
 
-/// Where a run has its folders.
+/// What documents say beside their process.
+#[derive(Drop)]
+pub(crate) struct Beside {
+    pub files: Items<Text>,
+    pub hints: Keyed<Resources>,
+}
+
+/// Where a run has its folders and files.
 #[derive(Drop)]
 pub struct Places {
     pub work: Text,
     pub outdir: Text,
     /// The archive's folder, if one is kept.
     pub archive: Option<Text>,
+    /// The file of the times that are trusted, if they are, as the words name it.
+    pub times: Option<Text>,
 }
 
 impl Places {
@@ -47,15 +59,21 @@ impl Places {
     pub fn clone_in(&self, alloc: Global) -> Result<Places, AllocError> {
         let work = self.work.copied(alloc)?;
         let outdir = self.outdir.copied(alloc)?;
-        let archive = match &self.archive {
-            None => None,
-            Some(folder) => Some(folder.copied(alloc)?),
-        };
+        let archive = copy_of(alloc, &self.archive)?;
+        let times = copy_of(alloc, &self.times)?;
         Ok(Places {
             work,
             outdir,
             archive,
+            times,
         })
+    }
+}
+
+fn copy_of(alloc: Global, path: &Option<Text>) -> Result<Option<Text>, AllocError> {
+    match path {
+        None => Ok(None),
+        Some(path) => Ok(Some(path.copied(alloc)?)),
     }
 }
 
@@ -65,10 +83,16 @@ pub fn given_of<R: World + Input>(rt: &R, call: &Call<'_>) -> Result<Given, Stop
     ensures err { IfErr result
         (IsStop (IsNotGiven call.now.here.now (wish_of_run call.now.words.now))) }
 {
-    let mut files = Items::new(rt.alloc());
-    match process_of(rt, call, &mut files) {
-        Ok(process) => with_inputs(rt, call, process, files),
-        Err(stop) => Err(stop),
+    let mut beside = Beside {
+        files: Items::new(rt.alloc()),
+        hints: Keyed::new(rt.alloc()),
+    };
+    match process_of(rt, call, &mut beside) {
+        Ok(process) => with_inputs(rt, call, process, beside),
+        Err(stop) => {
+            mem::drop(beside);
+            Err(stop)
+        }
     }
 }
 
@@ -76,22 +100,28 @@ fn with_inputs<R: World + Input>(
     rt: &R,
     call: &Call<'_>,
     process: Process,
-    files: Items<Text>,
+    beside: Beside,
 ) -> Result<Given, Stop>
-    requires { IsNamedProcess call.now.here.now (wish_of_run call.now.words.now) process }
+    requires process { IsNamedProcess call.now.here.now (wish_of_run call.now.words.now) process }
+    requires hints { AreHinted call.now.here.now (wish_of_run call.now.words.now) process
+        beside.hints }
     ensures ok { IfOk result (IsReady call.now.here.now (wish_of_run call.now.words.now)) }
     ensures err { IfErr result
         (IsStop (IsNotGiven call.now.here.now (wish_of_run call.now.words.now))) }
 {
     match inputs_of(rt, call) {
-        Ok(inputs) => Ok(Given {
-            process,
-            inputs,
-            files,
-        }),
+        Ok(inputs) => {
+            let Beside { files, hints } = beside;
+            Ok(Given {
+                process,
+                inputs,
+                files,
+                hints,
+            })
+        }
         Err(stop) => {
             mem::drop(process);
-            mem::drop(files);
+            mem::drop(beside);
             Err(stop)
         }
     }
@@ -102,7 +132,7 @@ pub fn ready_of<R: World + Input>(rt: &R, call: &Call<'_>) -> Result<Given, Stop
     ensures ok { IfOk result (IsReady call.now.here.now (wish_of_run call.now.words.now)) }
     ensures one { OnOk result (spec.is_twofold (wish_of_run call.now.words.now) ≡ false) }
     ensures err { IfErr result
-        (IsStop (IsUnready call.now.here.now (wish_of_run call.now.words.now))) }
+        (IsStop (IsNotReady call.now.here.now (wish_of_run call.now.words.now))) }
 {
     if is_twofold(call.words) {
         return Err(Stop::Early(Exit::Fault(Fault::Words)));

@@ -2,9 +2,9 @@
 ghost use Rattle.std.specs.Prelude.{◌≡◌, ◌++◌, ◌∷◌, [], Some, IfOk, OnOk, Contains};
 ghost use Rattle.program_words.specs.RunWords.{wish_of_run};
 ghost use Rattle.run_given.specs.Held as spec;
-ghost use Rattle.run_given.specs.Caches.{record_of as file_of_record};
+ghost use Rattle.run_given.specs.Caches.{record_of as file_of_record, times_of as file_of_times};
 
-use crate::caches::record_of;
+use crate::caches::{record_of, times_of};
 use crate::given::Given;
 use crate::standard_input::file_of;
 use plain_data::{Items, Text};
@@ -13,13 +13,14 @@ use program_words::RunWords;
 use std::alloc::{AllocError, Global};
 use std::{fs, io, mem};
 
-/// The documents, the file of the inputs, the record, and what SQLite puts beside it: where the file is a link, beside what it leads to.
+/// The documents, the file of the inputs, the record, what SQLite puts beside it (where the file is a link, beside what it leads to), and the
+/// file of times that are trusted.
 pub fn held_by<R: World>(rt: &R, given: &Given, words: &RunWords) -> Result<Items<Text>, AllocError>
     ensures { IfOk result (spec.IsHeld (wish_of_run words.now) given.now.files) }
 {
     let mut held = given.files.copied(rt.alloc())?;
     add_read(rt.alloc(), words, &mut held)?;
-    add_record(rt, words, &mut held)?;
+    add_kept(rt, words, &mut held)?;
     Ok(held)
 }
 
@@ -36,6 +37,15 @@ fn add_read(alloc: Global, words: &RunWords, held: &mut Items<Text>) -> Result<(
     }
 }
 
+fn add_kept<R: World>(rt: &R, words: &RunWords, held: &mut Items<Text>) -> Result<(), AllocError>
+    ensures keeps { OnOk result (spec.Keeps held.old held.new) }
+    ensures record { OnOk result (spec.Has (file_of_record (wish_of_run words.now)) held.new) }
+    ensures times { OnOk result (spec.Has (file_of_times (wish_of_run words.now)) held.new) }
+{
+    add_record(rt, words, held)?;
+    add_times(rt.alloc(), words, held)
+}
+
 fn add_record<R: World>(rt: &R, words: &RunWords, held: &mut Items<Text>) -> Result<(), AllocError>
     ensures keeps { OnOk result (spec.Keeps held.old held.new) }
     ensures record { OnOk result (spec.Has (file_of_record (wish_of_run words.now)) held.new) }
@@ -46,6 +56,16 @@ fn add_record<R: World>(rt: &R, words: &RunWords, held: &mut Items<Text>) -> Res
             mem::drop(file);
             added
         }
+        None => Ok(()),
+    }
+}
+
+fn add_times(alloc: Global, words: &RunWords, held: &mut Items<Text>) -> Result<(), AllocError>
+    ensures keeps { OnOk result (spec.Keeps held.old held.new) }
+    ensures times { OnOk result (spec.Has (file_of_times (wish_of_run words.now)) held.new) }
+{
+    match times_of(alloc, words)? {
+        Some(file) => held.push(file),
         None => Ok(()),
     }
 }

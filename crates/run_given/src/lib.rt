@@ -33,7 +33,7 @@ pub use named::{here_of, places_of, without_folder, without_record};
 pub use outdir::{outdir_for, without_outdir};
 pub use paths::{base_of, from_root};
 pub use reading::{NoBytes, bytes_of_file, bytes_of_input};
-pub use search::{Reached, path_at, reached_from, url_of};
+pub use search::{Reached, path_at, reached_from};
 pub use standard_input::{bytes_of, file_of};
 pub use stop::{Stop, stopped, unread};
 pub use work_folder::{leave, make_work, without_work};

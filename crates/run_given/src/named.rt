@@ -4,13 +4,13 @@ ghost use Rattle.document_links.specs.Library.{Documents};
 ghost use Rattle.run_given.specs.Caches.{archive_of as folder_of_archive};
 ghost use Rattle.run_given.specs.Paths.{from_root as path_from_root};
 ghost use Rattle.program_words.specs.RunWords.{wish_of_run};
-ghost use Rattle.run_given.specs.Named.{AreNamed, IsInputsText, IsNamedInputs, IsNamedProcess, IsNoInputs, IsNoProcess, IsRead};
+ghost use Rattle.run_given.specs.Named.{AreHinted, AreNamed, IsHinted, IsInputsText, IsNamedInputs, IsNamedProcess, IsNoInputs, IsNoProcess, IsRead};
 ghost use Rattle.run_given.specs.Sources.{IsAccepted, IsDocumentStop};
 ghost use Rattle.run_given.specs.Stops.{IsStop, IsUnread};
 
-use crate::caches::archive_of;
+use crate::caches::{archive_of, times_of};
 use crate::documents::accepted_of;
-use crate::given::{Call, Places};
+use crate::given::{Beside, Call, Places};
 use crate::inputs::inputs_at;
 use crate::paths::{base_of, from_root};
 use crate::reading::bytes_of_file;
@@ -18,11 +18,12 @@ use crate::search::{Reached, reached_from};
 use crate::standard_input::bytes_of;
 use crate::stop::{Stop, unread};
 use cwl_value::Value;
-use document_links::{Document, Process};
+use document_links::{Docs, Document, Process};
 use end_words::{Exit, Fault, RunEnd};
 use job_record::RecordFault;
 use plain_data::{Items, Keyed, Text};
 use process_machine::World;
+use resource_hints::{Resources, resources_of};
 use std::alloc::{AllocError, Global};
 use std::rt::Env;
 use std::{env, io, mem};
@@ -48,47 +49,75 @@ pub fn without_folder(alloc: Global, error: &io::Error) -> Result<RunEnd, AllocE
     }
 }
 
-/// Reads the document with all that it leads to, and tells the files of those.
-pub fn process_of<R: World>(
+/// Reads the document with all that it leads to, and says what they say beside the process.
+pub(crate) fn process_of<R: World>(
     rt: &R,
     call: &Call<'_>,
-    files: &mut Items<Text>,
+    beside: &mut Beside,
 ) -> Result<Process, Stop>
     ensures ok { IfOk result (IsNamedProcess call.now.here.now (wish_of_run call.now.words.now)) }
+    ensures hints { IfOk result (λ process. AreHinted call.now.here.now
+        (wish_of_run call.now.words.now) process beside.new.hints) }
     ensures err { IfErr result
         (IsStop (IsNoProcess call.now.here.now (wish_of_run call.now.words.now))) }
 {
     let document = document_of(rt, call)?;
     let base = base_of(rt.alloc(), call.here, call.words.document)?;
-    process_at(rt, &document, &base, files)
+    process_at(rt, &document, &base, call.words.launcher, beside)
 }
 
 fn process_at<R: World>(
     rt: &R,
     document: &Document,
     base: &Url,
-    files: &mut Items<Text>,
+    launcher: Option<&str>,
+    beside: &mut Beside,
 ) -> Result<Process, Stop>
     ensures ok { IfOk result (λ process. (docs : Documents)
-        × IsAccepted document.now base.now docs process) }
+        × IsAccepted document.now base.now docs process
+        × IsHinted (option_map (λ s. s.now) launcher.entry) document.now base.now docs
+        beside.new.hints) }
     ensures err { IfErr result (IsStop (λ exit. (docs : Documents)
         × IsDocumentStop document.now base.now docs exit)) }
 {
-    let reached = reached_from(rt, document, base)?;
-    let process = accepted_of(rt.alloc(), document, base, &reached.docs, &reached.missed);
-    tell_files(reached, files);
-    process
-}
-
-fn tell_files(reached: Reached, files: &mut Items<Text>) {
     let Reached {
         docs,
-        files: read,
+        files,
         missed,
-    } = reached;
-    mem::drop(docs);
+    } = reached_from(rt, document, base)?;
+    beside.files = files;
+    let process = accepted_of(rt.alloc(), document, base, &docs, &missed);
     mem::drop(missed);
-    mem::drop(mem::replace(files, read));
+    let hints = hints_for(rt.alloc(), launcher, document, base, &docs);
+    mem::drop(docs);
+    match (process, hints) {
+        (Ok(process), Ok(hints)) => {
+            beside.hints = hints;
+            Ok(process)
+        }
+        (Ok(process), Err(error)) => {
+            mem::drop(process);
+            Err(error.into())
+        }
+        (Err(stop), _) => Err(stop),
+    }
+}
+
+// What the hints ask of launchers, if there is one.
+fn hints_for(
+    alloc: Global,
+    launcher: Option<&str>,
+    document: &Document,
+    base: &Url,
+    docs: &Docs,
+) -> Result<Keyed<Resources>, AllocError>
+    ensures { IfOk result (IsHinted (option_map (λ s. s.now) launcher.entry) document.now base.now
+        docs.now) }
+{
+    match launcher {
+        None => Ok(Keyed::new(alloc)),
+        Some(_) => resources_of(alloc, document, base, docs),
+    }
 }
 
 fn document_of<R: World>(rt: &R, call: &Call<'_>) -> Result<Document, Stop>
@@ -159,10 +188,12 @@ pub fn places_of(alloc: Global, call: &Call<'_>) -> Result<Places, AllocError>
     let work = from_root(alloc, call.here, call.words.work)?;
     let outdir = from_root(alloc, call.here, call.words.outdir)?;
     let archive = archive_at(alloc, call)?;
+    let times = times_of(alloc, call.words)?;
     Ok(Places {
         work,
         outdir,
         archive,
+        times,
     })
 }
 

@@ -194,8 +194,8 @@ pub fn path_at(alloc: Global, url: &Text) -> Result<Option<Text>, AllocError> {
     }
 }
 
-/// The URL that a text is, if it is one.
-pub fn url_of(alloc: Global, text: &Text) -> Result<Option<Url>, AllocError> {
+// The URL that a text is, if it is one.
+fn url_of(alloc: Global, text: &Text) -> Result<Option<Url>, AllocError> {
     match Url::parse(alloc, text.as_str()) {
         Ok(url) => Ok(Some(url)),
         Err(ParseError::OutOfMemory) => Err(AllocError),

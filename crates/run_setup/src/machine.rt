@@ -16,6 +16,7 @@ use run_given::{Call, Given, Places, file_of, held_by, keeps_archive, remembers}
 use run_rules::Options;
 use run_watch::Memory;
 use std::alloc::{AllocError, Global};
+use std::mem;
 
 /// A machine of a run, which replaces none of the files that the run reads or holds, and puts the launcher's words before each command.
 pub fn guarded_machine<R: World>(
@@ -38,23 +39,47 @@ pub fn guarded_machine<R: World>(
     Ok(host)
 }
 
-/// A machine that works in these places, and keeps the folders of its jobs or not.
+/// A machine that works in these places, trusts times if a file of them is named, and keeps the folders of its jobs or not.
 pub fn machine_of<R: World>(rt: &R, places: &Places, keep: bool) -> Result<Machine<R>, AllocError>
     ensures { IfOk result (λ host. host.running ≡ []) }
 {
     let places = places.clone_in(rt.alloc())?;
-    Ok(machine_at(rt.clone()?, places, keep))
+    machine_at(rt.clone()?, places, keep)
 }
 
-fn machine_at<R: World>(rt: R, places: Places, keep: bool) -> Machine<R>
-    ensures { result.running ≡ [] }
+fn machine_at<R: World>(rt: R, places: Places, keep: bool) -> Result<Machine<R>, AllocError>
+    ensures { IfOk result (λ host. host.running ≡ []) }
 {
     let Places {
         work,
         outdir,
         archive,
+        times,
     } = places;
-    let mut host = Machine::new(rt, work, archive, outdir);
+    match trusting(Machine::new(rt, work, archive, outdir), times) {
+        Ok(host) => Ok(keeping(host, keep)),
+        Err(error) => Err(error),
+    }
+}
+
+fn trusting<R: World>(mut host: Machine<R>, times: Option<Text>) -> Result<Machine<R>, AllocError>
+    ensures { IfOk result (λ same. same.running ≡ host.running) }
+{
+    match times {
+        None => Ok(host),
+        Some(file) => match host.trust_times(file) {
+            Ok(()) => Ok(host),
+            Err(error) => {
+                mem::drop(host);
+                Err(error)
+            }
+        },
+    }
+}
+
+fn keeping<R: World>(mut host: Machine<R>, keep: bool) -> Machine<R>
+    ensures { result.running ≡ host.running }
+{
     if keep {
         host.keep_folders();
     }

@@ -6,7 +6,7 @@ use command_line::{BuildFault, Launch};
 use cwl_process::Tool;
 use end_notes::{
     add_ending, add_listing, add_mismatch, add_obstacle, add_output, add_remarks, add_start,
-    add_uncopied, misfit_lines, missing_lines, secondary_lines, step_lines, tool_lines, tool_of,
+    add_step, add_tool, add_uncopied, misfit_lines, missing_lines, secondary_lines, tool_of,
 };
 use end_words::{
     Counted, Ended, Exit, Fault, Named, add_over_budget, add_tally, add_undiscarded, add_unput,
@@ -23,6 +23,7 @@ use run_given::Given;
 use run_rules::{Cause, CollectCause};
 use staging::Found;
 use std::alloc::{AllocError, Global};
+use std::mem;
 
 /// The place of the process itself, as JSON text.
 const ROOT: &str = "\"main\"";
@@ -42,37 +43,49 @@ pub fn notes_on<R: World>(
     traces: &Traces<'_>,
     exit: &Exit,
 ) -> Vec<String> {
-    match all_lines(rt, host, given, traces, exit) {
-        Ok(lines) => lines,
+    let mut lines = Vec::new(rt.alloc());
+    match add_notes(rt, host, given, traces, exit, &mut lines) {
+        Ok(()) => lines,
         Err(AllocError) => Vec::new(rt.alloc()),
     }
 }
 
-fn all_lines<R: World>(
+fn add_notes<R: World>(
     rt: &R,
     host: &Machine<R>,
     given: &Given,
     traces: &Traces<'_>,
     exit: &Exit,
-) -> Result<Vec<String>, AllocError> {
-    let mut lines = lines_on(rt, host, given, traces, exit)?;
+    lines: &mut Vec<String>,
+) -> Result<(), AllocError> {
+    add_own(rt, host, given, traces, exit, lines)?;
     let failed = failed_in(rt.alloc(), given, traces, exit)?;
-    add_others(rt, host, traces, failed.as_slice(), exit, &mut lines)?;
-    add_unkept(rt.alloc(), host, traces, &mut lines)?;
-    if let Some(memory) = traces.memory {
-        if matches!(exit, Exit::Permanent(_, _) | Exit::Temporary(_)) {
-            add_counts(
-                rt.alloc(),
-                traces,
-                failed.as_slice(),
-                exit,
-                memory.keeps,
-                &mut lines,
-            )?;
-        }
-        add_remarks(rt, given, memory.document, memory.inputs, &mut lines)?;
+    let added = add_of_run(rt, host, traces, failed.as_slice(), exit, lines);
+    mem::drop(failed);
+    added?;
+    match traces.memory {
+        Some(memory) => add_remarks(rt, given, memory.document, memory.inputs, lines),
+        None => Ok(()),
     }
-    Ok(lines)
+}
+
+// Adds what is said of the other jobs, what could not be kept, and what became of all.
+fn add_of_run<R: World>(
+    rt: &R,
+    host: &Machine<R>,
+    traces: &Traces<'_>,
+    failed: &[u64],
+    exit: &Exit,
+    lines: &mut Vec<String>,
+) -> Result<(), AllocError> {
+    add_others(rt, host, traces, failed, exit, lines)?;
+    add_unkept(rt.alloc(), host, traces, lines)?;
+    match traces.memory {
+        Some(memory) if matches!(exit, Exit::Permanent(_, _) | Exit::Temporary(_)) => {
+            add_counts(rt.alloc(), traces, failed, exit, memory.keeps, lines)
+        }
+        _ => Ok(()),
+    }
 }
 
 /// Returns a line on the jobs whose files there was no room for, if that is why they were not kept. If memory runs out there is none.
@@ -104,56 +117,73 @@ fn archive_of<'a>(traces: &Traces<'a>) -> Option<&'a str> {
     }
 }
 
-fn lines_on<R: World>(
+// Adds what is said of what the end names.
+fn add_own<R: World>(
     rt: &R,
     host: &Machine<R>,
     given: &Given,
     traces: &Traces<'_>,
     exit: &Exit,
-) -> Result<Vec<String>, AllocError> {
+    lines: &mut Vec<String>,
+) -> Result<(), AllocError> {
     match exit {
-        Exit::Permanent(place, Cause::Equation(cause)) if place.as_str() == ROOT => {
-            value_lines(rt.alloc(), host.log(), given, cause)
+        Exit::Permanent(place, cause) => {
+            add_failure(rt, host, given, traces, place.as_str(), cause, lines)
         }
-        Exit::Permanent(place, Cause::Equation(NoValue::Reference(_))) => {
-            step_lines(rt.alloc(), &given.process, place.as_str())
+        Exit::Temporary(place) => add_job(rt, host, traces.ticket_at(place.as_str()), lines),
+        Exit::Mismatch(place) => add_forgotten(rt, host, traces, place.as_str(), lines),
+        Exit::Fault(Fault::Host(HostFault::Deliver, _)) => add_delivery(rt.alloc(), host, lines),
+        Exit::Fault(Fault::Host(fault, _)) => add_call(rt, host, traces, *fault, lines),
+        _ => Ok(()),
+    }
+}
+
+// Adds what is said of the job or the input that failed.
+fn add_failure<R: World>(
+    rt: &R,
+    host: &Machine<R>,
+    given: &Given,
+    traces: &Traces<'_>,
+    place: &str,
+    cause: &Cause,
+    lines: &mut Vec<String>,
+) -> Result<(), AllocError> {
+    match cause {
+        Cause::Equation(cause) if place == ROOT => {
+            add_input(rt.alloc(), host.log(), given, cause, lines)
         }
-        Exit::Permanent(place, Cause::Build(BuildFault::Reference(_))) => {
-            tool_lines(rt.alloc(), &given.process, place.as_str())
+        Cause::Equation(NoValue::Reference(_)) => {
+            add_step(rt.alloc(), &given.process, place, lines)
         }
-        Exit::Permanent(place, Cause::Collect(CollectCause::Output(fault))) => {
-            let tool = tool_of(&given.process, place.as_str());
-            output_lines(rt, host, traces.ticket_at(place.as_str()), tool, fault)
+        Cause::Build(BuildFault::Reference(_)) => {
+            add_tool(rt.alloc(), &given.process, place, lines)
         }
-        Exit::Permanent(place, Cause::Exit(_) | Cause::Collect(_)) | Exit::Temporary(place) => {
-            job_lines(rt, host, traces.ticket_at(place.as_str()))
+        Cause::Collect(CollectCause::Output(fault)) => {
+            let tool = tool_of(&given.process, place);
+            add_lacking(rt, host, traces.ticket_at(place), tool, fault, lines)
         }
-        Exit::Mismatch(place) => mismatch_lines(rt, host, traces, place.as_str()),
-        Exit::Fault(Fault::Host(HostFault::Deliver, _)) => delivery_lines(rt.alloc(), host),
-        Exit::Fault(Fault::Host(fault, _)) => call_lines(rt, host, traces, *fault),
-        _ => Ok(Vec::new(rt.alloc())),
+        Cause::Exit(_) | Cause::Collect(_) => add_job(rt, host, traces.ticket_at(place), lines),
+        _ => Ok(()),
     }
 }
 
 // ---- a call of the host
 
 // The place of the job that it was for, and what hindered it.
-fn call_lines<R: World>(
+fn add_call<R: World>(
     rt: &R,
     host: &Machine<R>,
     traces: &Traces<'_>,
     fault: HostFault,
-) -> Result<Vec<String>, AllocError> {
-    let alloc = rt.alloc();
-    let mut lines = Vec::new(alloc);
-    add_place(alloc, traces.failed_at(fault), &mut lines)?;
+    lines: &mut Vec<String>,
+) -> Result<(), AllocError> {
+    add_place(rt.alloc(), traces.failed_at(fault), lines)?;
     match fault {
-        HostFault::Start => add_unstarted(rt, host, &mut lines)?,
-        HostFault::Stage => add_unstaged(alloc, host, &mut lines)?,
-        HostFault::Scan => add_obstacle(alloc, host.unlisted(), &mut lines)?,
-        _ => {}
+        HostFault::Start => add_unstarted(rt, host, lines),
+        HostFault::Stage => add_unstaged(rt.alloc(), host, lines),
+        HostFault::Scan => add_obstacle(rt.alloc(), host.unlisted(), lines),
+        _ => Ok(()),
     }
-    Ok(lines)
 }
 
 fn add_unstarted<R: World>(
@@ -192,76 +222,83 @@ fn add_place(
 
 // ---- an input
 
-fn value_lines(
+fn add_input(
     alloc: Global,
     log: &[Entry],
     given: &Given,
     cause: &NoValue,
-) -> Result<Vec<String>, AllocError> {
-    match cause {
-        NoValue::Kind(input) => misfit_lines(alloc, given, input),
-        NoValue::Missing(input) => missing_lines(alloc, log, given, input),
-        NoValue::Secondary(input) => secondary_lines(alloc, log, given, input),
-        _ => Ok(Vec::new(alloc)),
+    lines: &mut Vec<String>,
+) -> Result<(), AllocError> {
+    let found = match cause {
+        NoValue::Kind(input) => misfit_lines(alloc, given, input)?,
+        NoValue::Missing(input) => missing_lines(alloc, log, given, input)?,
+        NoValue::Secondary(input) => secondary_lines(alloc, log, given, input)?,
+        _ => return Ok(()),
+    };
+    for line in found {
+        lines.push(line)?;
     }
+    Ok(())
 }
 
 // ---- a job
 
-fn job_lines<R: World>(
+fn add_job<R: World>(
     rt: &R,
     host: &Machine<R>,
     ticket: Option<&u64>,
-) -> Result<Vec<String>, AllocError> {
+    lines: &mut Vec<String>,
+) -> Result<(), AllocError> {
     let Some(ticket) = ticket else {
-        return Ok(Vec::new(rt.alloc()));
+        return Ok(());
     };
     match (
         launch_with(host.log(), *ticket),
         end_of(host.log(), *ticket),
     ) {
-        (Some(launch), Some(end)) => child_lines(rt, launch, &end, host.signal_of(*ticket)),
-        _ => Ok(Vec::new(rt.alloc())),
+        (Some(launch), Some(end)) => add_child(rt, launch, &end, host.signal_of(*ticket), lines),
+        _ => Ok(()),
     }
 }
 
 // The same, the pattern of an output or what it refers to, and what the job left.
-fn output_lines<R: World>(
+fn add_lacking<R: World>(
     rt: &R,
     host: &Machine<R>,
     ticket: Option<&u64>,
     tool: Option<&Tool>,
     fault: &OutputFault,
-) -> Result<Vec<String>, AllocError> {
-    let mut lines = job_lines(rt, host, ticket)?;
+    lines: &mut Vec<String>,
+) -> Result<(), AllocError> {
+    add_job(rt, host, ticket, lines)?;
     if let Some(tool) = tool {
-        add_output(rt.alloc(), tool, fault, &mut lines)?;
+        add_output(rt.alloc(), tool, fault, lines)?;
     }
     match ticket {
-        Some(ticket) => add_listing(rt.alloc(), host.log(), *ticket, &mut lines)?,
-        None => {}
+        Some(ticket) => add_listing(rt.alloc(), host.log(), *ticket, lines),
+        None => Ok(()),
     }
-    Ok(lines)
 }
 
 // The same, which of its files are not those of its row, and how that is forgotten.
-fn mismatch_lines<R: World>(
+fn add_forgotten<R: World>(
     rt: &R,
     host: &Machine<R>,
     traces: &Traces<'_>,
     place: &str,
-) -> Result<Vec<String>, AllocError> {
+    lines: &mut Vec<String>,
+) -> Result<(), AllocError> {
     let ticket = traces.ticket_at(place);
-    let mut lines = job_lines(rt, host, ticket)?;
-    if let Some(row) = traces.row_at(place) {
-        let (record, keeps) = match &traces.memory {
-            Some(memory) => (memory.record, memory.keeps),
-            None => (None, false),
-        };
-        let left = left_by(host.log(), ticket);
-        add_mismatch(rt.alloc(), row, left, record, keeps, &mut lines)?;
-    }
-    Ok(lines)
+    add_job(rt, host, ticket, lines)?;
+    let Some(row) = traces.row_at(place) else {
+        return Ok(());
+    };
+    let (record, keeps) = match &traces.memory {
+        Some(memory) => (memory.record, memory.keeps),
+        None => (None, false),
+    };
+    let left = left_by(host.log(), ticket);
+    add_mismatch(rt.alloc(), row, left, record, keeps, lines)
 }
 
 // What was in the output folder of a child.
@@ -270,21 +307,28 @@ fn left_by<'a>(log: &'a [Entry], ticket: Option<&u64>) -> Option<&'a [Found]> {
     listing_of(log, launch.dir.as_str())
 }
 
-fn child_lines<R: World>(
+fn add_child<R: World>(
     rt: &R,
     launch: &Launch,
     end: &ChildEnd,
     signal: Option<i32>,
-) -> Result<Vec<String>, AllocError> {
+    lines: &mut Vec<String>,
+) -> Result<(), AllocError> {
     let alloc = rt.alloc();
-    let mut lines = Vec::new(alloc);
+    lines.push(launch_line(alloc, launch)?)?;
+    lines.push(end_line(alloc, end)?)?;
+    add_ending(alloc, end.code, signal, lines)?;
+    add_messages(rt, launch, lines)
+}
+
+fn launch_line(alloc: Global, launch: &Launch) -> Result<String, AllocError> {
     let command = line_of(alloc, launch)?;
-    lines.push(format!(in alloc; "command: {command}")?)?;
+    format!(in alloc; "command: {command}")
+}
+
+fn end_line(alloc: Global, end: &ChildEnd) -> Result<String, AllocError> {
     let (how, millis) = (ending(alloc, end.code)?, end.millis);
-    lines.push(format!(in alloc; "ended: {how}, {millis} ms")?)?;
-    add_ending(alloc, end.code, signal, &mut lines)?;
-    add_messages(rt, launch, &mut lines)?;
-    Ok(lines)
+    format!(in alloc; "ended: {how}, {millis} ms")
 }
 
 fn add_messages<R: World>(
@@ -371,10 +415,7 @@ fn add_other<R: World>(
     lines: &mut Vec<String>,
 ) -> Result<(), AllocError> {
     lines.push(failed_too(rt.alloc(), &ended.place)?)?;
-    for line in job_lines(rt, host, Some(&ended.ticket))? {
-        lines.push(line)?;
-    }
-    Ok(())
+    add_job(rt, host, Some(&ended.ticket), lines)
 }
 
 // Adds what became of the jobs.
@@ -402,16 +443,19 @@ fn add_counts(
 
 // ---- a delivery
 
-fn delivery_lines<R: World>(alloc: Global, host: &Machine<R>) -> Result<Vec<String>, AllocError> {
-    let mut lines = Vec::new(alloc);
+fn add_delivery<R: World>(
+    alloc: Global,
+    host: &Machine<R>,
+    lines: &mut Vec<String>,
+) -> Result<(), AllocError> {
     let Some(missed) = host.undelivered() else {
-        return Ok(lines);
+        return Ok(());
     };
-    add_uncopied(alloc, missed, &mut lines)?;
+    add_uncopied(alloc, missed, lines)?;
     if let Some(source) = source_of(host.log(), &missed.target) {
         lines.push(format!(in alloc; "it lies at {source}")?)?;
     }
-    Ok(lines)
+    Ok(())
 }
 
 // Where the result lies that the last call was to bring to this target.

@@ -55,14 +55,10 @@ line_below line = codes "\n" ++ visible line
 abbrev pub lines_of : Process → List ℕ
 lines_of process = class_line (out-Process process) ++ flat_map line_below (input_lines (out-Process process))
 
--- an entry for each input, in the order of the document
-abbrev pub input_entries : Seen → List (List ℕ)
-input_entries (Process-F.Tool tool) = map tool_entry tool.inputs
-input_entries (Process-F.Workflow workflow) = map workflow_entry (out-Workflow workflow).inputs
-
--- an input object for a process, to be filled in
-abbrev pub template_of : Process → List ℕ
-template_of process = template (input_entries (out-Process process))
+-- an input object for a process, to be filled in: an entry for each input, in the order of the document
+abbrev pub template_of : Seen → List ℕ
+template_of (Process-F.Tool tool) = template (map tool_entry tool.inputs)
+template_of (Process-F.Workflow workflow) = template (map workflow_entry (out-Workflow workflow).inputs)
 
 -- ---- a process and inputs for it
 
@@ -92,7 +88,7 @@ IsCommandShown (Process-F.Workflow workflow) given runtime exit = exit ≡ exits
 -- what is asked for: a command, an input object or the lines
 abbrev pub IsAskedShown : Shows → Given → Runtime → Exit → Type 0
 IsAskedShown Command given runtime exit = IsCommandShown (out-Process given.process) given runtime exit
-IsAskedShown Template given runtime exit = exit ≡ exits.Output (template_of given.process)
+IsAskedShown Template given runtime exit = exit ≡ exits.Output (template_of (out-Process given.process))
 IsAskedShown other given runtime exit = exit ≡ exits.Output (lines_of given.process)
 
 -- whether the values of the inputs have to fit: for a command always, else where an input object is named

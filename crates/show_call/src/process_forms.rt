@@ -44,7 +44,7 @@ fn input_lines(alloc: Global, process: &Process) -> Result<Vec<String>, AllocErr
 
 /// Returns JSON text of an input object for a process.
 pub fn template_of(alloc: Global, process: &Process) -> Result<Text, AllocError>
-    ensures { IfOk result (λ text. text ≡ spec.template_of process.now) }
+    ensures { IfOk result (λ text. text ≡ spec.template_of (out-Process process.now)) }
 {
     match process {
         Process::Tool(tool) => tool_template(alloc, tool.inputs.as_slice()),

@@ -70,13 +70,7 @@ fn of_shown<R: World>(rt: &R, given: &Given, call: &Call<'_>) -> Result<RunEnd, 
 {
     let notes = remarks_on(rt, given, call)?;
     let exit = exit_of(rt.alloc(), given, call)?;
-    Ok(RunEnd {
-        exit,
-        left: None,
-        notes,
-        savings: None,
-        unkept: None,
-    })
+    Ok(RunEnd::with_notes(exit, notes))
 }
 
 // What is known to be wrong with a process, and what of it is ignored, where that is asked for.
@@ -119,13 +113,7 @@ fn of_misfit(alloc: Global, given: &Given, input: &Text) -> Result<RunEnd, Alloc
     let notes = misfit_lines(alloc, given, input)?;
     let cause = Cause::Equation(NoValue::Kind(input.copied(alloc)?));
     let exit = of_failure(alloc, Items::new(alloc), cause)?;
-    Ok(RunEnd {
-        exit,
-        left: None,
-        notes,
-        savings: None,
-        unkept: None,
-    })
+    Ok(RunEnd::with_notes(exit, notes))
 }
 
 // What is to be shown of a process and its inputs.

@@ -16,6 +16,7 @@ mod launches;
 mod linked;
 mod orders;
 mod process;
+mod resources;
 mod short;
 mod step_inputs;
 mod template;
@@ -39,6 +40,8 @@ fn of_documents(alloc: Global, row: &Row) -> Result<String, RowFault> {
         "read_unlinked" => process::read(alloc, row),
         "read_process" => linked::read(alloc, row),
         "needed_docs" => linked::needed(alloc, row),
+        "resources_of" => resources::asked(alloc, row),
+        "variables_for" => resources::told(alloc, row),
         "read_written" => process::read_written(alloc, row),
         "read_type" => types::read(alloc, row),
         "fits" => types::fits_type(alloc, row),

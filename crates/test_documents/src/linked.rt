@@ -103,7 +103,7 @@ fn process_text(alloc: Global, process: &Process) -> Result<String, RowFault> {
     out.finish()
 }
 
-fn base_url(alloc: Global, text: &str) -> Result<Url, RowFault> {
+pub(crate) fn base_url(alloc: Global, text: &str) -> Result<Url, RowFault> {
     Url::parse(alloc, text).map_err(|_refusal| RowFault::OutOfMemory)
 }
 
@@ -120,7 +120,7 @@ fn fault_told(alloc: Global, fault: &LinkFault) -> Result<String, RowFault> {
 }
 
 /// The documents of the row, by their URLs.
-fn docs(alloc: Global, row: &Row) -> Result<Docs, RowFault> {
+pub(crate) fn docs(alloc: Global, row: &Row) -> Result<Docs, RowFault> {
     let mut docs = Keyed::new(alloc);
     put_docs(alloc, &mut docs, row)?;
     Ok(Docs::of(alloc, docs)?)
@@ -147,7 +147,7 @@ fn put_document(
     Ok(())
 }
 
-fn document(alloc: Global, json: &Value) -> Result<Document, RowFault> {
+pub(crate) fn document(alloc: Global, json: &Value) -> Result<Document, RowFault> {
     let bytes = bytes(alloc, json)?;
     Ok(Document::read(alloc, Items::from_vec(bytes))?)
 }

@@ -1,8 +1,10 @@
 //! Samples on documents that lead to others: their links.
 
+use cwl_value::JobPlace;
 use document_links::{Docs, Document, LinkError, Process, needed_docs, read_process};
 use plain_data::{Items, Keyed};
 use plan_waits::{PlannedJob, waiting_steps};
+use resource_hints::{resources_of, variables_for};
 use std::alloc::{AllocError, Global};
 use url::Url;
 use workflow_check::{AcceptError, accept};
@@ -33,6 +35,19 @@ pub fn steps_that_wait(
     jobs: &[PlannedJob],
 ) -> Result<(), AllocError> {
     let ids = waiting_steps(alloc, process, jobs)?; // `sort` and `merge`, in the order of the document; jobs: those that the plan knows
+    Ok(())
+}
+
+/// The sample of `resource_hints`.
+pub fn told_resources(
+    alloc: Global,
+    document: &Document,
+    base: &Url,
+    docs: &Docs,
+    job: &JobPlace,
+) -> Result<(), AllocError> {
+    let asked = resources_of(alloc, document, base, docs)?; // `main/align`: 4 cores, of a step `align` whose tool has a hint with coresMin 4
+    let told = variables_for(alloc, &asked, job)?; // DEPAROHI_PLACE=main/align[3] and DEPAROHI_CORES=4, of the job main/align[3]
     Ok(())
 }
 

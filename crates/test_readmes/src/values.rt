@@ -12,6 +12,7 @@ use scatter_shape::{Gathering, ScatterError, Shape, jobs_of, lengths_of};
 use staging::{GlobError, Pattern, deliver_plan, stage_plan};
 use std::alloc::{AllocError, Global};
 use std::io::Read;
+use trusted_times::{Stamp, Times};
 use url::Url;
 use value_depth::{is_object_within_limit, is_within_limit};
 
@@ -47,6 +48,16 @@ pub fn located(alloc: Global, value: Value, base: &Url) -> Result<(), FileError>
     let location = path_to_location(alloc, "/d/a b.txt")?; // file:///d/a%20b.txt
     let name = secondary_name(alloc, "^.bai", "r.bam")?; // r.bai
     let value = resolve(alloc, value, base)?; // every File has a path and a name
+    Ok(())
+}
+
+/// The sample of `trusted_times`.
+pub fn trusted(alloc: Global, stamp: Stamp, sum: Text, now: u64) -> Result<(), AllocError> {
+    let mut times = Times::new(alloc);
+    times.note(alloc, "/d/a.txt", stamp, sum, now)?; // noted, if the file had been left alone for more than two seconds
+    let sum = times.sum_at("/d/a.txt", &stamp); // Some(sum): the stamp is the same
+    let text = times.text(alloc)?; // a heading, a line for each file, how many these are
+    let again = Times::read(alloc, text.as_str())?; // Some(times); None of what isn't whole
     Ok(())
 }
 

@@ -34,4 +34,4 @@ returns c =
     c.get_str-12.ensures ∙ first_value-rows found (codes "base") in
     let rate : option_map (λ s. s.now) c.get_str-13.result ≡ first_of (codes "rate") (rows_of found) =
     c.get_str-13.ensures ∙ first_value-rows found (codes "rate") in
-    rw (document, inputs, work, outdir, slots, retries, launcher, record_file, archive, cache, budget, base, rate, c.is_given.ensures, c.is_given-2.ensures, c.telling_of.ensures, c.shows_of.ensures, c.is_wanted.ensures) refl
+    rw (document, inputs, work, outdir, slots, retries, launcher, record_file, archive, cache, budget, c.is_given.ensures, base, rate, c.is_given-2.ensures, c.is_given-3.ensures, c.telling_of.ensures, c.shows_of.ensures, c.is_wanted.ensures) refl

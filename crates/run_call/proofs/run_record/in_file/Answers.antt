@@ -13,4 +13,4 @@ returns-in-Ok-clause-end g c =
 pub returns-clause-end : goal.returns-clause-end
 returns-clause-end g c =
     without_record g.R.Records g.R.Kept.Record c.args.rt.now c.args.call.now.here.now (wish_of_run c.args.call.now.words.now) c.args.call.now.path.now c.args.given.now _ _ _
-    c.requires.ready c.requires.file c.without_record.ensures.exit c.without_record.ensures.left
+    c.requires.one c.requires.ready c.requires.file c.without_record.ensures.exit c.without_record.ensures.left

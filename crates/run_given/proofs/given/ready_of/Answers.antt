@@ -7,4 +7,4 @@ pub returns-then-is_twofold-clause-err : goal.returns-then-is_twofold-clause-err
 returns-then-is_twofold-clause-err g c = twofold (sym c.is_twofold.ensures ∙ c.if-is_twofold.true)
 
 pub returns-clause-err : goal.returns-clause-err
-returns-clause-err g c = stops_so _ _ (λ exit end. not_given end) _ c.given_of.ensures.err
+returns-clause-err g c = stops_so _ _ (λ exit end. not_given (sym c.is_twofold.ensures ∙ c.if-is_twofold.false) end) _ c.given_of.ensures.err

@@ -2,7 +2,7 @@ use Rattle.std.proofs.Common.{sym, ap, ◌∙◌, ◌+◌}
 use Rattle.proc_host.proofs.Running.{next_is_fresh, up_to_next}
 use Rattle.proc_host.proofs.Told.{starts_more}
 use Rattle.process_machine.proofs.Steps.{starts_same}
-use Rattle.process_machine.proofs.machine.MachineHost.start.Goals as goal
+use Rattle.process_machine.proofs.machine.Machine.start_advised.Goals as goal
 
 pub invariant_of-self : goal.invariant_of-self
 invariant_of-self g c = record {

@@ -1,0 +1,4 @@
+pub mod Amounts
+pub mod Hints
+pub mod Laws
+pub mod Told
