@@ -169,7 +169,8 @@ class Requirements:
         if why_not is not None:
             self.findings.add(IGNORED, it.fields, "class", name, f"{FORCED[name]}: {why_not}")
         elif it.is_hint:
-            self.findings.add(IGNORED, it.fields, "class", name, "the runner ignores this hint")
+            told = "the runner reserves nothing; a launcher is told" if name == "ResourceRequirement" else "the runner ignores this hint"
+            self.findings.add(IGNORED, it.fields, "class", name, told)
         else:
             self.findings.add(REWRITTEN, it.fields, "class", name, "it changes nothing in what the tool does here, and becomes a hint")
 

@@ -74,6 +74,13 @@ class Rewriting(InFolder):
                 made = self.whole(TOOL + f"inputs: []\noutputs: []\n{section}: {{ResourceRequirement: {{coresMin: 2, ramMin: 0.5, tmpdirMax: 100}}}}\n")
                 self.assertEqual([asked], made["hints"])
 
+    def test_hints_say_who_takes_them(self) -> None:
+        rows = {"ResourceRequirement: {coresMin: 2}": "the runner reserves nothing; a launcher is told", "DockerRequirement: {dockerPull: debian}": "the runner ignores this hint"}
+        for text, wanted in rows.items():
+            with self.subTest(text):
+                self.whole(TOOL + f"inputs: []\noutputs: []\nhints:\n  {text}\n")
+                self.assertEqual([(text.split(":")[0], wanted)], [(it.feature, it.words) for it in self.findings.all if it.kind == "ignored"])
+
     def test_resources_of_a_tool_that_node_does(self) -> None:
         text = TOOL + "inputs: {n: int}\noutputs: []\narguments: [$(runtime.cores)]\n"
         for section in ("requirements", "hints"):

@@ -20,6 +20,10 @@ record_of words = kept_in words.cache (codes "jobs.db") words.record_file
 abbrev pub times_of : RunWish → Option Text
 times_of words = if words.trust_times then option_map (λ file. file ++ codes ".times") (record_of words) else None
 
+-- A new table is written to this file first, which then takes that one's place.
+abbrev pub new_times_of : RunWish → Option Text
+new_times_of words = option_map (λ file. file ++ codes ".new") (times_of words)
+
 -- the archive's folder
 abbrev pub archive_of : RunWish → Option Text
 archive_of words = kept_in words.cache (codes "files") words.archive

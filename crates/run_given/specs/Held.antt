@@ -2,7 +2,7 @@
 use Rattle.std.specs.Prelude.{◌≡◌, List, Option, Some, None, codes, bytes_eq, if◌then◌else◌}
 use Rattle.std.specs.List.{Contains}
 use Rattle.clap.specs.Words.{Text}
-use Rattle.run_given.specs.Caches.{record_of, times_of}
+use Rattle.run_given.specs.Caches.{new_times_of, record_of, times_of}
 use Rattle.program_words.specs.RunWords.{RunWish}
 
 -- the file of the inputs, where they are of one: `-` stands for standard input
@@ -18,7 +18,7 @@ Keeps files more = (file : Text) → Contains files file → Contains more file
 abbrev pub Has : Option Text → List Text → Type 0
 Has named files = (file : Text) → named ≡ Some file → Contains files file
 
--- The files of the documents that the process leads to, its own, that of the inputs, that of the record and that of trusted times are held. So is what SQLite puts beside
+-- The files of the documents that the process leads to, its own, that of the inputs, that of the record and those of trusted times are held. So is what SQLite puts beside
 -- the record, whose names no contract can say, since they are those of the file that a link leads to.
 pub record IsHeld (words : RunWish) (files held : List Text) : Type 0 where
   pub documents : Keeps files held
@@ -26,3 +26,4 @@ pub record IsHeld (words : RunWish) (files held : List Text) : Type 0 where
   pub inputs : Has (file_of words.inputs) held
   pub record_file : Has (record_of words) held
   pub times : Has (times_of words) held
+  pub new_times : Has (new_times_of words) held

@@ -2,7 +2,7 @@
 ghost use Rattle.std.specs.Prelude.{◌≡◌, ◌++◌, ◌∷◌, [], Some, IfOk, OnOk, Contains};
 ghost use Rattle.program_words.specs.RunWords.{wish_of_run};
 ghost use Rattle.run_given.specs.Held as spec;
-ghost use Rattle.run_given.specs.Caches.{record_of as file_of_record, times_of as file_of_times};
+ghost use Rattle.run_given.specs.Caches.{new_times_of, record_of as file_of_record, times_of as file_of_times};
 
 use crate::caches::{record_of, times_of};
 use crate::given::Given;
@@ -13,8 +13,8 @@ use program_words::RunWords;
 use std::alloc::{AllocError, Global};
 use std::{fs, io, mem};
 
-/// The documents, the file of the inputs, the record, what SQLite puts beside it (where the file is a link, beside what it leads to), and the
-/// file of times that are trusted.
+/// The documents, the file of the inputs, the record, what SQLite puts beside it (where the file is a link, beside what it leads to), the
+/// file of times that are trusted, and the one by which it is written.
 pub fn held_by<R: World>(rt: &R, given: &Given, words: &RunWords) -> Result<Items<Text>, AllocError>
     ensures { IfOk result (spec.IsHeld (wish_of_run words.now) given.now.files) }
 {
@@ -41,6 +41,7 @@ fn add_kept<R: World>(rt: &R, words: &RunWords, held: &mut Items<Text>) -> Resul
     ensures keeps { OnOk result (spec.Keeps held.old held.new) }
     ensures record { OnOk result (spec.Has (file_of_record (wish_of_run words.now)) held.new) }
     ensures times { OnOk result (spec.Has (file_of_times (wish_of_run words.now)) held.new) }
+    ensures new { OnOk result (spec.Has (new_times_of (wish_of_run words.now)) held.new) }
 {
     add_record(rt, words, held)?;
     add_times(rt.alloc(), words, held)
@@ -63,9 +64,13 @@ fn add_record<R: World>(rt: &R, words: &RunWords, held: &mut Items<Text>) -> Res
 fn add_times(alloc: Global, words: &RunWords, held: &mut Items<Text>) -> Result<(), AllocError>
     ensures keeps { OnOk result (spec.Keeps held.old held.new) }
     ensures times { OnOk result (spec.Has (file_of_times (wish_of_run words.now)) held.new) }
+    ensures new { OnOk result (spec.Has (new_times_of (wish_of_run words.now)) held.new) }
 {
     match times_of(alloc, words)? {
-        Some(file) => held.push(file),
+        Some(file) => {
+            add_ending(alloc, file.as_str(), ".new", held)?;
+            held.push(file)
+        }
         None => Ok(()),
     }
 }
@@ -97,7 +102,7 @@ fn add_ending(
     ending: &str,
     held: &mut Items<Text>,
 ) -> Result<(), AllocError>
-    ensures { OnOk result (spec.Keeps held.old held.new) }
+    ensures { OnOk result (held.new ≡ held.old ++ (path.now ++ ending.now) ∷ []) }
 {
     held.push(Text::from_string(format!(in alloc; "{path}{ending}")?))
 }

@@ -10,4 +10,5 @@ returns g c = record {
   inputs = λ file named. c.in_ok-add_kept.ensures.keeps file (c.in_ok-add_read.ensures.inputs file named);
   record_file = c.in_ok-add_kept.ensures.record;
   times = c.in_ok-add_kept.ensures.times;
+  new_times = c.in_ok-add_kept.ensures.new;
 }
