@@ -116,7 +116,7 @@ fn copy_file<R: World>(rt: &R, from: &str, file: &Found, target: &str) -> Result
     ensures { IfOk result (λ found. found.name ≡ file.now.name) }
 {
     let mut reader = File::open(rt, from)?.take(file.size.saturating_add(1));
-    let found = copy_from(rt, &mut reader, &file.name, target);
+    let found = copy_from(rt, &mut reader, &file.name, file.size, target);
     mem::drop(reader);
     found
 }
@@ -125,12 +125,13 @@ fn copy_from<R: World>(
     rt: &R,
     reader: &mut Take<R::File>,
     name: &Text,
+    size: u64,
     target: &str,
 ) -> Result<Found, Trouble>
     ensures { IfOk result (λ found. found.name ≡ name.now) }
 {
     let mut writer = made_anew(rt, target, name.as_str())?;
-    let found = fill(rt.alloc(), name, reader, &mut writer);
+    let found = fill(rt.alloc(), name, size, reader, &mut writer);
     mem::drop(writer);
     found
 }
@@ -138,12 +139,13 @@ fn copy_from<R: World>(
 fn fill<F: Read + Write + OpenFile>(
     alloc: Global,
     name: &Text,
+    size: u64,
     reader: &mut Take<F>,
     writer: &mut F,
 ) -> Result<Found, Trouble>
     ensures { IfOk result (λ found. found.name ≡ name.now) }
 {
-    let found = copy_told(alloc, name, reader, writer)?;
+    let found = copy_told(alloc, name, size, reader, writer)?;
     keep_attributes(reader.get_ref(), writer)?;
     Ok(found)
 }

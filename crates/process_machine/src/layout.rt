@@ -69,13 +69,16 @@ pub(crate) fn copy_all<R: World>(
     below: &str,
     missed: &mut Missed,
 ) -> Result<(), Trouble> {
+    let mut made: Option<&str> = None;
     for (index, planned) in moves.iter().enumerate() {
         missed.at = Some(index);
         let target = planned.target.as_str();
         let Some(name) = name_below(target, below) else {
             return Err(Trouble::Failed);
         };
-        make_way(rt, below, name)?;
+        let way = way_of(name);
+        make_way(rt, below, made, way)?;
+        made = Some(way);
         copy(
             rt,
             past,
@@ -87,12 +90,31 @@ pub(crate) fn copy_all<R: World>(
     Ok(())
 }
 
-// Makes a folder, and the folders in it that lead to this name, where they are absent.
-fn make_way<R: AllocGlobal + Files>(rt: &R, folder: &str, name: &str) -> Result<(), Trouble> {
-    or_trouble(fs::create_dir_all(rt, folder))?;
+// The folders that lead to a name; none is the empty way.
+fn way_of(name: &str) -> &str {
     match name.rsplit_once('/') {
-        Some((way, _)) => make_along(rt, folder, way),
-        None => Ok(()),
+        Some((way, _)) => way,
+        None => "",
+    }
+}
+
+// Makes a folder, and the folders in it along a way, where they are absent. Once a way was made the folder is there, and so is all of
+// that way.
+fn make_way<R: AllocGlobal + Files>(
+    rt: &R,
+    folder: &str,
+    made: Option<&str>,
+    way: &str,
+) -> Result<(), Trouble> {
+    match made {
+        Some(last) if last == way => return Ok(()),
+        Some(_) => {}
+        None => or_trouble(fs::create_dir_all(rt, folder))?,
+    }
+    if way.is_empty() {
+        Ok(())
+    } else {
+        make_along(rt, folder, way)
     }
 }
 

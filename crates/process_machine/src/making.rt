@@ -143,13 +143,8 @@ pub(crate) fn keep_attributes<F: OpenFile>(reader: &F, writer: &F) -> Result<(),
 }
 
 /// Whether a file has the permissions that a copy of another one has.
-pub(crate) fn has_rights_of<R: Files>(
-    rt: &R,
-    file: &Metadata,
-    source: &str,
-) -> Result<bool, Trouble> {
-    let rights = mode_of(fs::metadata(rt, source))? & COPIED_RIGHTS;
-    Ok(file.permissions().mode() & ALL_RIGHTS == rights)
+pub(crate) fn has_rights_of(file: &Metadata, source: &Metadata) -> bool {
+    file.permissions().mode() & ALL_RIGHTS == source.permissions().mode() & COPIED_RIGHTS
 }
 
 /// The mode of what is at a path.
