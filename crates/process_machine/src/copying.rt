@@ -1,7 +1,7 @@
 //! Copies of files and folders, which have to be as they were told.
 
 use crate::identity::{id_of, names};
-use crate::layout::{joined, make_along};
+use crate::layout::{joined, make_way, way_of};
 use crate::making::{
     give_rights_of, has_rights_of, keep_attributes, made_anew, make_folder_as, new_file_in,
     new_folder_in,
@@ -216,31 +216,33 @@ fn fill_folder<R: World>(
     kind: Folder,
     changed: &mut Option<Text>,
 ) -> Result<(), Trouble> {
+    let mut made = "";
     for entry in found {
         if let Some(name) = name_in(entry, name) {
             let from = joined(rt.alloc(), source, name)?;
             let copied = match kind {
                 Folder::New => copy_entry(rt, entry, from.as_str(), folder, name),
-                Folder::There => merge_entry(rt, entry, from.as_str(), folder, name),
+                Folder::There => merge_entry(rt, entry, from.as_str(), folder, made, name),
             };
             note_changed(rt.alloc(), from.as_str(), &copied, changed);
             copied?;
+            made = way_of(name);
         }
     }
     Ok(())
 }
 
-// Copies what has to be as it was found to this name below a folder that others may use. Nothing is followed out of that folder.
+// Copies what has to be as it was found to this name below a folder that others may use. Nothing is followed out of that folder. The
+// folders along the way that was made last are there.
 fn merge_entry<R: World>(
     rt: &R,
     entry: &Found,
     from: &str,
     folder: &str,
+    made: &str,
     name: &str,
 ) -> Result<(), Trouble> {
-    if let Some((way, _)) = name.rsplit_once('/') {
-        make_along(rt, folder, way)?;
-    }
+    make_way(rt, folder, made, way_of(name))?;
     let path = joined(rt.alloc(), folder, name)?;
     if !entry.is_dir {
         return copy_file(rt, entry, from, path.as_str());

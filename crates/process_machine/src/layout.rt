@@ -69,16 +69,18 @@ pub(crate) fn copy_all<R: World>(
     below: &str,
     missed: &mut Missed,
 ) -> Result<(), Trouble> {
-    let mut made: Option<&str> = None;
+    let mut made = "";
     for (index, planned) in moves.iter().enumerate() {
         missed.at = Some(index);
         let target = planned.target.as_str();
         let Some(name) = name_below(target, below) else {
             return Err(Trouble::Failed);
         };
-        let way = way_of(name);
-        make_way(rt, below, made, way)?;
-        made = Some(way);
+        if index == 0 {
+            or_trouble(fs::create_dir_all(rt, below))?;
+        }
+        make_way(rt, below, made, way_of(name))?;
+        made = way_of(name);
         copy(
             rt,
             past,
@@ -90,28 +92,22 @@ pub(crate) fn copy_all<R: World>(
     Ok(())
 }
 
-// The folders that lead to a name; none is the empty way.
-fn way_of(name: &str) -> &str {
+/// The folders that lead to a name below a folder; the empty way if there are none.
+pub(crate) fn way_of(name: &str) -> &str {
     match name.rsplit_once('/') {
         Some((way, _)) => way,
         None => "",
     }
 }
 
-// Makes a folder, and the folders in it along a way, where they are absent. Once a way was made the folder is there, and so is all of
-// that way.
-fn make_way<R: AllocGlobal + Files>(
+/// Makes the folders along a way below a folder, which is there, unless they are those that were made last. None of them may be a link.
+pub(crate) fn make_way<R: AllocGlobal + Files>(
     rt: &R,
     folder: &str,
-    made: Option<&str>,
+    made: &str,
     way: &str,
 ) -> Result<(), Trouble> {
-    match made {
-        Some(last) if last == way => return Ok(()),
-        Some(_) => {}
-        None => or_trouble(fs::create_dir_all(rt, folder))?,
-    }
-    if way.is_empty() {
+    if way.is_empty() || way == made {
         Ok(())
     } else {
         make_along(rt, folder, way)

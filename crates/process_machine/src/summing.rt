@@ -16,6 +16,9 @@ use std::io::{Read, Write};
 /// The bytes that one read asks for at most.
 const BLOCK: usize = 65_536;
 
+/// The bytes that one read asks for at least.
+const LEAST: usize = 4_096;
+
 /// Copies what a reader has left to a writer. It has to have the size and the sum of a file as it was found.
 pub(crate) fn copy_as_found<F: Read, W: Write>(
     alloc: Global,
@@ -100,11 +103,14 @@ fn copy_summed<F: Read, W: Write>(
     Err(Trouble::Failed)
 }
 
-// The bytes that one read asks for, of what is expected to have so many: one more, so that a longer file is seen to be one.
+// The bytes that one read asks for, of what is expected to have so many: one more, if that is not too many. A file of which the system
+// knows no length, or that grows, is not read in small pieces.
 fn block_length(expected: u64) -> usize
     ensures { 0 < result }
 {
-    if expected < BLOCK as u64 {
+    if expected < LEAST as u64 {
+        LEAST
+    } else if expected < BLOCK as u64 {
         expected as usize + 1
     } else {
         BLOCK
