@@ -2,7 +2,7 @@
 ghost use Rattle.std.specs.Prelude.{◌≡◌, [], None, true, IfOk, IfSome, IsTrue};
 ghost use Rattle.proc_host.specs.Answers.{are_among};
 
-use crate::archive::{fetch_folder, key_folder, leads_below};
+use crate::archive::{fetch_folder, key_folders, leads_below};
 use crate::cut_off::clear_stores;
 use crate::entries::{Source, take_all};
 use crate::layout::joined;
@@ -50,12 +50,12 @@ pub(crate) fn fetch_all<R: World>(
     let Some(archive) = archive else {
         return Err(Trouble::Failed);
     };
-    clear_stores(rt, archive, key)?;
-    let folder = key_folder(rt.alloc(), archive, key)?;
+    let folders = key_folders(rt.alloc(), archive, key)?;
+    clear_stores(rt, &folders)?;
     let target = made_folder(rt, work, number)?;
     let archived = Archived {
         rt,
-        folder: folder.as_str(),
+        folder: folders.own.as_str(),
         target: target.as_str(),
     };
     take_all(rt.alloc(), &archived, files)
