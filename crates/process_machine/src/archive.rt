@@ -5,6 +5,7 @@ ghost use Rattle.process_machine.specs.Archive as spec;
 use plain_data::Text;
 use sha1::Sha1;
 use std::alloc::{AllocError, Global};
+use std::mem;
 
 /// The SHA-1 of a key in lower case digits, which is the name of its folder in the archive.
 pub(crate) fn key_sum(alloc: Global, key: &str) -> Result<String, AllocError>
@@ -13,20 +14,24 @@ pub(crate) fn key_sum(alloc: Global, key: &str) -> Result<String, AllocError>
     hex::encode(alloc, Sha1::digest(key.as_bytes()))
 }
 
-/// The folder of a key in the archive.
-pub(crate) fn key_folder(alloc: Global, archive: &str, key: &str) -> Result<Text, AllocError>
-    ensures { IfOk result (λ path. path ≡ spec.key_folder archive.now key.now) }
-{
-    let sum = key_sum(alloc, key)?;
-    Ok(Text::from_string(format!(in alloc; "{archive}/{sum}")?))
+/// The folders that an archive has for a key.
+#[derive(Drop)]
+pub(crate) struct KeyFolders {
+    /// What is archived under the key.
+    pub own: Text,
+    /// Beside it, what is stored under the key and is not whole yet.
+    pub stores: Text,
 }
 
-/// The folder beside that of a key which has what is stored under the key and is not whole yet.
-pub(crate) fn stores_folder(alloc: Global, archive: &str, key: &str) -> Result<Text, AllocError>
-    ensures { IfOk result (λ path. path ≡ spec.stores_folder archive.now key.now) }
+/// The folders of a key in the archive. A key may be as long as a tool is written, so it is summed once for both.
+pub(crate) fn key_folders(alloc: Global, archive: &str, key: &str) -> Result<KeyFolders, AllocError>
+    ensures own { IfOk result (λ folders. folders.own ≡ spec.key_folder archive.now key.now) }
+    ensures stores { IfOk result (λ folders. folders.stores ≡ spec.stores_folder archive.now key.now) }
 {
     let sum = key_sum(alloc, key)?;
-    Ok(Text::from_string(format!(in alloc; "{archive}/.{sum}")?))
+    let own = Text::from_string(format!(in alloc; "{archive}/{sum}")?);
+    let stores = Text::from_string(format!(in alloc; "{archive}/.{sum}")?);
+    Ok(KeyFolders { own, stores })
 }
 
 /// The folder there for what is stored from this folder of a job. Jobs of runs at one time have folders of their own.
@@ -38,7 +43,8 @@ pub(crate) fn beside_folder(
 ) -> Result<Text, AllocError>
     ensures { IfOk result (λ path. path ≡ spec.beside_folder archive.now key.now folder.now) }
 {
-    let stores = stores_folder(alloc, archive, key)?;
+    let KeyFolders { own, stores } = key_folders(alloc, archive, key)?;
+    mem::drop(own);
     let sum = key_sum(alloc, folder)?;
     Ok(Text::from_string(format!(in alloc; "{stores}/{sum}")?))
 }

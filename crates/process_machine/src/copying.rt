@@ -1,7 +1,7 @@
 //! Copies of files and folders, which have to be as they were told.
 
-use crate::identity::names;
-use crate::layout::{joined, make_along};
+use crate::identity::{id_of, names};
+use crate::layout::{joined, make_way, way_of};
 use crate::making::{
     give_rights_of, has_rights_of, keep_attributes, made_anew, make_folder_as, new_file_in,
     new_folder_in,
@@ -10,7 +10,7 @@ use crate::measuring::measure_of;
 use crate::missed::note_changed;
 use crate::past::{Known, Past, known_of, name_in};
 use crate::summing::{copy_as_found, is_as_found};
-use crate::tree::{is_folder, is_own_folder};
+use crate::tree::is_own_folder;
 use crate::trouble::{Hindrance, Trouble, or_trouble};
 use crate::trusting::{Sums, sum_at};
 use crate::world::World;
@@ -104,12 +104,12 @@ fn file_of(alloc: Global, size: u64, sum: &Text) -> Result<Found, AllocError> {
 }
 
 fn copy_file<R: World>(rt: &R, file: &Found, source: &str, target: &str) -> Result<(), Trouble> {
-    check_kind(rt, source, false)?;
+    let found = found_as(rt, source, false)?;
     if let Ok(there) = fs::symlink_metadata(rt, target) {
-        if names(rt, source, target) {
+        if names(rt, source, id_of(&found), &there) {
             return check_sum(rt, file, source);
         }
-        if is_copy(rt, file, source, &there, target)? {
+        if is_copy(rt, file, &found, &there, target)? {
             return Ok(());
         }
     }
@@ -124,7 +124,7 @@ fn copy_file<R: World>(rt: &R, file: &Found, source: &str, target: &str) -> Resu
 }
 
 fn check_sum<R: World>(rt: &R, file: &Found, path: &str) -> Result<(), Trouble> {
-    let sum = sum_at(rt, path)?;
+    let sum = sum_at(rt, path, file.size)?;
     if is_as_found(&sum, file) {
         Ok(())
     } else {
@@ -132,18 +132,18 @@ fn check_sum<R: World>(rt: &R, file: &Found, path: &str) -> Result<(), Trouble> 
     }
 }
 
-// Whether what is at a path is what a copy of this file would be. What can't be read is not.
+// Whether what is at a path is what a copy of this file, which was found so, would be. What can't be read is not.
 fn is_copy<R: World>(
     rt: &R,
     file: &Found,
-    source: &str,
+    found: &Metadata,
     there: &Metadata,
     path: &str,
 ) -> Result<bool, Trouble> {
-    if !there.is_file() || there.len() != file.size || !has_rights_of(rt, there, source)? {
+    if !there.is_file() || there.len() != file.size || !has_rights_of(there, found) {
         return Ok(false);
     }
-    match sum_at(rt, path) {
+    match sum_at(rt, path, file.size) {
         Ok(sum) => Ok(is_as_found(&sum, file)),
         Err(Trouble::OutOfMemory) => Err(Trouble::OutOfMemory),
         Err(_) => Ok(false),
@@ -168,7 +168,7 @@ fn copy_folder<R: World>(
     target: &str,
     changed: &mut Option<Text>,
 ) -> Result<(), Trouble> {
-    check_kind(rt, source, true)?;
+    let _found = found_as(rt, source, true)?;
     match fs::symlink_metadata(rt, target) {
         Ok(there) if there.is_dir() => {
             fill_folder(rt, found, name, source, target, Folder::There, changed)
@@ -216,36 +216,38 @@ fn fill_folder<R: World>(
     kind: Folder,
     changed: &mut Option<Text>,
 ) -> Result<(), Trouble> {
+    let mut made = "";
     for entry in found {
         if let Some(name) = name_in(entry, name) {
             let from = joined(rt.alloc(), source, name)?;
             let copied = match kind {
                 Folder::New => copy_entry(rt, entry, from.as_str(), folder, name),
-                Folder::There => merge_entry(rt, entry, from.as_str(), folder, name),
+                Folder::There => merge_entry(rt, entry, from.as_str(), folder, made, name),
             };
             note_changed(rt.alloc(), from.as_str(), &copied, changed);
             copied?;
+            made = way_of(name);
         }
     }
     Ok(())
 }
 
-// Copies what has to be as it was found to this name below a folder that others may use. Nothing is followed out of that folder.
+// Copies what has to be as it was found to this name below a folder that others may use. Nothing is followed out of that folder. The
+// folders along the way that was made last are there.
 fn merge_entry<R: World>(
     rt: &R,
     entry: &Found,
     from: &str,
     folder: &str,
+    made: &str,
     name: &str,
 ) -> Result<(), Trouble> {
-    if let Some((way, _)) = name.rsplit_once('/') {
-        make_along(rt, folder, way)?;
-    }
+    make_way(rt, folder, made, way_of(name))?;
     let path = joined(rt.alloc(), folder, name)?;
     if !entry.is_dir {
         return copy_file(rt, entry, from, path.as_str());
     }
-    check_kind(rt, from, true)?;
+    let _found = found_as(rt, from, true)?;
     if is_own_folder(rt, path.as_str()) {
         return Ok(());
     }
@@ -261,7 +263,7 @@ pub(crate) fn copy_entry<R: World>(
     folder: &str,
     name: &str,
 ) -> Result<(), Trouble> {
-    check_kind(rt, from, entry.is_dir)?;
+    let _found = found_as(rt, from, entry.is_dir)?;
     if entry.is_dir {
         return make_folder_as(rt, from, folder, name);
     }
@@ -271,12 +273,20 @@ pub(crate) fn copy_entry<R: World>(
     filled
 }
 
-// What was told of has to be there still, a folder or a file as it was.
-fn check_kind<R: World>(rt: &R, path: &str, is_dir: bool) -> Result<(), Trouble> {
-    match is_folder(rt, path) {
-        Ok(found) if found == is_dir => Ok(()),
+// What was told of has to be there still, a folder or a file as it was. Returns what is there.
+fn found_as<R: World>(rt: &R, path: &str, is_dir: bool) -> Result<Metadata, Trouble> {
+    match or_trouble(fs::metadata(rt, path)) {
+        Ok(found) if is_kind(&found, is_dir) => Ok(found),
         Ok(_) | Err(Trouble::Failed | Trouble::Hindered(Hindrance::Other)) => Err(CHANGED),
         Err(trouble) => Err(trouble),
+    }
+}
+
+fn is_kind(found: &Metadata, is_dir: bool) -> bool {
+    if is_dir {
+        found.is_dir()
+    } else {
+        found.is_file()
     }
 }
 

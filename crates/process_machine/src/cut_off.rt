@@ -1,6 +1,6 @@
 //! What stores that were cut off left in an archive.
 
-use crate::archive::{key_folder, stores_folder};
+use crate::archive::KeyFolders;
 use crate::layout::joined;
 use crate::tree::is_own_folder;
 use crate::world::World;
@@ -11,14 +11,13 @@ use std::{fs, io};
 ///
 /// What can't be moved or removed stays. A store that goes on is cut off: its folder is renamed before it is removed, so it fails, and
 /// archives nothing.
-pub(crate) fn clear_stores<R: World>(rt: &R, archive: &str, key: &str) -> Result<(), AllocError> {
-    let stores = stores_folder(rt.alloc(), archive, key)?;
-    if !is_own_folder(rt, stores.as_str()) {
+pub(crate) fn clear_stores<R: World>(rt: &R, folders: &KeyFolders) -> Result<(), AllocError> {
+    let stores = folders.stores.as_str();
+    if !is_own_folder(rt, stores) {
         return Ok(());
     }
-    let target = key_folder(rt.alloc(), archive, key)?;
-    clear_each(rt, stores.as_str(), target.as_str())?;
-    let _removed = fs::remove_dir(rt, stores.as_str());
+    clear_each(rt, stores, folders.own.as_str())?;
+    let _removed = fs::remove_dir(rt, stores);
     Ok(())
 }
 

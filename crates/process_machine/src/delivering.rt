@@ -1,10 +1,9 @@
 //! Results, and the files that no result replaces.
 
-use crate::identity::{FileId, file_at, file_behind, is_id, names};
+use crate::identity::{FileId, file_at, file_behind, id_of, is_id, names};
 use crate::layout::{copy_all, joined};
 use crate::missed::Missed;
 use crate::past::{Known, Past, name_in};
-use crate::tree::is_own_folder;
 use crate::trouble::{Hindrance, Trouble};
 use crate::world::World;
 use plain_data::Text;
@@ -12,12 +11,15 @@ use proc_host::{Entry, HostAnswer, HostRequest};
 use staging::{Found, Measure, Move};
 use std::alloc::{AllocError, Global};
 use std::collections::BTreeMap;
+use std::fs;
 
 // What a move puts at a path.
 #[derive(Drop)]
 struct Written {
     from: String,
     to: String,
+    // The file or link that is there.
+    there: Option<FileId>,
     // The index of the move.
     index: usize,
 }
@@ -52,12 +54,27 @@ fn spoiling<R: World>(
     moves: &[Move],
 ) -> Result<Option<(usize, Hindrance)>, Trouble> {
     let written = written_by(rt, past, moves)?;
+    let met = met_by(rt.alloc(), written.as_slice())?;
+    if spoiled(rt, past, guarded, &met, written.as_slice())?.is_none() {
+        return Ok(None);
+    }
+    // A result may be what is at its target: only now is it worth a look at each.
     let replaced = replaced_by(rt, written.as_slice())?;
-    let measured = measured_among(rt, past.log, &replaced)?;
-    Ok(match measured {
+    spoiled(rt, past, guarded, &replaced, written.as_slice())
+}
+
+// The index of a move that would replace one of these files, or make something, against what was given or is guarded, and why.
+fn spoiled<R: World>(
+    rt: &R,
+    past: Past<'_>,
+    guarded: &[Text],
+    replaced: &BTreeMap<FileId, usize>,
+    written: &[Written],
+) -> Result<Option<(usize, Hindrance)>, Trouble> {
+    Ok(match measured_among(rt, past.log, replaced)? {
         Some(index) => Some((index, Hindrance::Given)),
         None => {
-            let index = guarded_among(rt, guarded, &replaced, written.as_slice());
+            let index = guarded_among(rt, guarded, replaced, written);
             index.map(|index| (index, Hindrance::Guarded))
         }
     })
@@ -72,16 +89,15 @@ fn written_by<R: World>(
     let mut written = Vec::new(rt.alloc());
     for (index, planned) in moves.iter().enumerate() {
         let (source, target) = (planned.source.as_str(), planned.target.as_str());
-        add_written(rt.alloc(), source, target, index, &mut written)?;
-        if is_own_folder(rt, target) {
-            add_entries(rt.alloc(), past, planned, index, &mut written)?;
+        if add_written(rt, source, target, index, &mut written)? {
+            add_entries(rt, past, planned, index, &mut written)?;
         }
     }
     Ok(written)
 }
 
-fn add_entries(
-    alloc: Global,
+fn add_entries<R: World>(
+    rt: &R,
     past: Past<'_>,
     planned: &Move,
     index: usize,
@@ -93,28 +109,50 @@ fn add_entries(
     };
     for entry in found {
         if let Some(name) = name_in(entry, folder) {
-            let from = joined(alloc, source, name)?;
-            let to = joined(alloc, planned.target.as_str(), name)?;
-            written.push(Written { from, to, index })?;
+            let from = joined(rt.alloc(), source, name)?;
+            let to = joined(rt.alloc(), planned.target.as_str(), name)?;
+            let _is_folder = add_written(rt, from.as_str(), to.as_str(), index, written)?;
         }
     }
     Ok(())
 }
 
-fn add_written(
-    alloc: Global,
+// Adds what is put at a target, and returns whether a folder is there.
+fn add_written<R: World>(
+    rt: &R,
     from: &str,
     to: &str,
     index: usize,
     written: &mut Vec<Written>,
-) -> Result<(), AllocError> {
-    let from = String::from_str(alloc, from)?;
-    let to = String::from_str(alloc, to)?;
-    written.push(Written { from, to, index })?;
-    Ok(())
+) -> Result<bool, AllocError> {
+    let (is_folder, there) = match fs::symlink_metadata(rt, to) {
+        Ok(met) if met.is_dir() => (true, None),
+        Ok(met) => (false, id_of(&met)),
+        Err(_) => (false, None),
+    };
+    let from = String::from_str(rt.alloc(), from)?;
+    let to = String::from_str(rt.alloc(), to)?;
+    written.push(Written {
+        from,
+        to,
+        there,
+        index,
+    })?;
+    Ok(is_folder)
 }
 
-// The files and links where something is put, if that is not the result itself, each with the index of its move.
+// The files and links where something is put, each with the index of its move.
+fn met_by(alloc: Global, written: &[Written]) -> Result<BTreeMap<FileId, usize>, AllocError> {
+    let mut met = BTreeMap::new(alloc);
+    for it in written {
+        if let Some(id) = it.there {
+            let _other = met.insert(id, it.index)?;
+        }
+    }
+    Ok(met)
+}
+
+// The same, if that is not the result itself.
 fn replaced_by<R: World>(
     rt: &R,
     written: &[Written],
@@ -129,10 +167,9 @@ fn replaced_by<R: World>(
 }
 
 fn replaced_at<R: World>(rt: &R, from: &str, to: &str) -> Option<FileId> {
-    if is_own_folder(rt, to) || names(rt, from, to) {
-        None
-    } else {
-        file_at(rt, to)
+    match fs::symlink_metadata(rt, to) {
+        Ok(met) if !met.is_dir() && !names(rt, from, file_behind(rt, from), &met) => id_of(&met),
+        _ => None,
     }
 }
 
@@ -196,9 +233,12 @@ fn index_below<R: World>(
 
 // The index for what is at a path, or what the link that is there leads to.
 fn index_at<R: World>(rt: &R, path: &str, replaced: &BTreeMap<FileId, usize>) -> Option<usize> {
-    match index_for(file_at(rt, path), replaced) {
-        None => index_for(file_behind(rt, path), replaced),
-        index => index,
+    match fs::symlink_metadata(rt, path) {
+        Ok(met) => match index_for(id_of(&met), replaced) {
+            None if met.is_symlink() => index_for(file_behind(rt, path), replaced),
+            index => index,
+        },
+        Err(_) => None,
     }
 }
 

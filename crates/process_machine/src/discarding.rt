@@ -1,6 +1,6 @@
 //! How what is archived under a key is removed.
 
-use crate::archive::key_folder;
+use crate::archive::key_folders;
 use crate::cut_off::clear_stores;
 use crate::removing::remove_folder;
 use crate::trouble::{Trouble, where_present};
@@ -18,10 +18,10 @@ pub(crate) fn discard_all<R: World>(
     let Some(archive) = archive else {
         return Err(Trouble::Failed);
     };
+    let folders = key_folders(rt.alloc(), archive, key)?;
     // What such a store had moved aside is put back, so that it goes too.
-    clear_stores(rt, archive, key)?;
-    let folder = key_folder(rt.alloc(), archive, key)?;
-    let removed = where_present(remove_folder(rt, folder.as_str()));
-    mem::drop(folder);
+    clear_stores(rt, &folders)?;
+    let removed = where_present(remove_folder(rt, folders.own.as_str()));
+    mem::drop(folders);
     removed
 }

@@ -2,7 +2,7 @@
 ghost use Rattle.std.specs.Prelude.{◌≡◌, [], None, true, IfOk, IfSome, IsTrue};
 ghost use Rattle.proc_host.specs.Answers.{are_among};
 
-use crate::archive::{fetch_folder, key_folder, leads_below};
+use crate::archive::{fetch_folder, key_folders, leads_below};
 use crate::cut_off::clear_stores;
 use crate::entries::{Source, take_all};
 use crate::layout::joined;
@@ -50,12 +50,12 @@ pub(crate) fn fetch_all<R: World>(
     let Some(archive) = archive else {
         return Err(Trouble::Failed);
     };
-    clear_stores(rt, archive, key)?;
-    let folder = key_folder(rt.alloc(), archive, key)?;
+    let folders = key_folders(rt.alloc(), archive, key)?;
+    clear_stores(rt, &folders)?;
     let target = made_folder(rt, work, number)?;
     let archived = Archived {
         rt,
-        folder: folder.as_str(),
+        folder: folders.own.as_str(),
         target: target.as_str(),
     };
     take_all(rt.alloc(), &archived, files)
@@ -116,7 +116,7 @@ fn copy_file<R: World>(rt: &R, from: &str, file: &Found, target: &str) -> Result
     ensures { IfOk result (λ found. found.name ≡ file.now.name) }
 {
     let mut reader = File::open(rt, from)?.take(file.size.saturating_add(1));
-    let found = copy_from(rt, &mut reader, &file.name, target);
+    let found = copy_from(rt, &mut reader, &file.name, file.size, target);
     mem::drop(reader);
     found
 }
@@ -125,12 +125,13 @@ fn copy_from<R: World>(
     rt: &R,
     reader: &mut Take<R::File>,
     name: &Text,
+    size: u64,
     target: &str,
 ) -> Result<Found, Trouble>
     ensures { IfOk result (λ found. found.name ≡ name.now) }
 {
     let mut writer = made_anew(rt, target, name.as_str())?;
-    let found = fill(rt.alloc(), name, reader, &mut writer);
+    let found = fill(rt.alloc(), name, size, reader, &mut writer);
     mem::drop(writer);
     found
 }
@@ -138,12 +139,13 @@ fn copy_from<R: World>(
 fn fill<F: Read + Write + OpenFile>(
     alloc: Global,
     name: &Text,
+    size: u64,
     reader: &mut Take<F>,
     writer: &mut F,
 ) -> Result<Found, Trouble>
     ensures { IfOk result (λ found. found.name ≡ name.now) }
 {
-    let found = copy_told(alloc, name, reader, writer)?;
+    let found = copy_told(alloc, name, size, reader, writer)?;
     keep_attributes(reader.get_ref(), writer)?;
     Ok(found)
 }

@@ -14,31 +14,39 @@ pub(crate) struct FileId {
 
 /// What is at a path, where anything is. A link is taken as itself.
 pub(crate) fn file_at<R: Files>(rt: &R, path: &str) -> Option<FileId> {
-    id_of(fs::symlink_metadata(rt, path))
+    id_found(fs::symlink_metadata(rt, path))
 }
 
 /// What a path leads to, where it leads to anything.
 pub(crate) fn file_behind<R: Files>(rt: &R, path: &str) -> Option<FileId> {
-    id_of(fs::metadata(rt, path))
+    id_found(fs::metadata(rt, path))
 }
 
-/// Whether a path, or the link that is there, names what is at another path.
-pub(crate) fn names<R: Files>(rt: &R, path: &str, other: &str) -> bool {
-    match file_at(rt, other) {
+/// Whether a path, which leads to what is `behind`, or the link that is there, names what was met at another path.
+pub(crate) fn names<R: Files>(rt: &R, path: &str, behind: Option<FileId>, met: &Metadata) -> bool {
+    match id_of(met) {
         None => false,
-        Some(id) => is_id(file_at(rt, path), id) || is_id(file_behind(rt, path), id),
+        // Only a link is told apart from what its path leads to.
+        Some(id) => is_id(behind, id) || (met.is_symlink() && is_id(file_at(rt, path), id)),
     }
 }
 
-// A file system that gives no numbers tells no files apart.
-fn id_of(metadata: io::Result<Metadata>) -> Option<FileId> {
-    match metadata {
-        Ok(metadata) if metadata.ino() != 0 => Some(FileId {
-            device: metadata.dev(),
-            number: metadata.ino(),
-        }),
-        _ => None,
+fn id_found(outcome: io::Result<Metadata>) -> Option<FileId> {
+    match outcome {
+        Ok(metadata) => id_of(&metadata),
+        Err(_) => None,
     }
+}
+
+/// Which file this is. A file system that gives no numbers tells no files apart.
+pub(crate) fn id_of(metadata: &Metadata) -> Option<FileId> {
+    if metadata.ino() == 0 {
+        return None;
+    }
+    Some(FileId {
+        device: metadata.dev(),
+        number: metadata.ino(),
+    })
 }
 
 /// Whether what was found is this.

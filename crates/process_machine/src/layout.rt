@@ -69,13 +69,18 @@ pub(crate) fn copy_all<R: World>(
     below: &str,
     missed: &mut Missed,
 ) -> Result<(), Trouble> {
+    let mut made = "";
     for (index, planned) in moves.iter().enumerate() {
         missed.at = Some(index);
         let target = planned.target.as_str();
         let Some(name) = name_below(target, below) else {
             return Err(Trouble::Failed);
         };
-        make_way(rt, below, name)?;
+        if index == 0 {
+            or_trouble(fs::create_dir_all(rt, below))?;
+        }
+        make_way(rt, below, made, way_of(name))?;
+        made = way_of(name);
         copy(
             rt,
             past,
@@ -87,12 +92,25 @@ pub(crate) fn copy_all<R: World>(
     Ok(())
 }
 
-// Makes a folder, and the folders in it that lead to this name, where they are absent.
-fn make_way<R: AllocGlobal + Files>(rt: &R, folder: &str, name: &str) -> Result<(), Trouble> {
-    or_trouble(fs::create_dir_all(rt, folder))?;
+/// The folders that lead to a name below a folder; the empty way if there are none.
+pub(crate) fn way_of(name: &str) -> &str {
     match name.rsplit_once('/') {
-        Some((way, _)) => make_along(rt, folder, way),
-        None => Ok(()),
+        Some((way, _)) => way,
+        None => "",
+    }
+}
+
+/// Makes the folders along a way below a folder, which is there, unless they are those that were made last. None of them may be a link.
+pub(crate) fn make_way<R: AllocGlobal + Files>(
+    rt: &R,
+    folder: &str,
+    made: &str,
+    way: &str,
+) -> Result<(), Trouble> {
+    if way.is_empty() || way == made {
+        Ok(())
+    } else {
+        make_along(rt, folder, way)
     }
 }
 

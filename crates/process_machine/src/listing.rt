@@ -77,13 +77,18 @@ fn sum_below<R: World>(
         return Ok(FileSum { sum, size: 0 });
     }
     let path = joined(rt.alloc(), folder, below.name.as_str())?;
-    listed_sum(rt, path.as_str(), sums)
+    listed_sum(rt, path.as_str(), below.size, sums)
 }
 
-fn listed_sum<R: World>(rt: &R, path: &str, sums: &mut Sums) -> Result<FileSum, NoListing>
+fn listed_sum<R: World>(
+    rt: &R,
+    path: &str,
+    size: u64,
+    sums: &mut Sums,
+) -> Result<FileSum, NoListing>
     ensures { IfErr result (IsOn path.now) }
 {
-    match sums.sum_at(rt, path) {
+    match sums.sum_at(rt, path, size) {
         Ok(sum) => Ok(sum),
         Err(trouble) => Err(NoListing::unread(rt.alloc(), path, trouble)),
     }

@@ -1,7 +1,7 @@
 //! New files and folders, which are their owner's alone until they are whole.
 
 use crate::layout::{joined, make_along, make_own};
-use crate::trouble::{Hindrance, Trouble, or_trouble};
+use crate::trouble::{Hindrance, Trouble, or_trouble, where_present};
 use std::alloc::{AllocError, Global};
 use std::fs::{DirBuilder, File, FileTimes, Metadata, OpenFile, Permissions};
 use std::os::unix::fs::{DirBuilderExt, OpenOptionsExt, PermissionsExt};
@@ -87,24 +87,28 @@ pub(crate) fn made_anew<R: AllocGlobal + Files>(
     name: &str,
 ) -> Result<R::File, Trouble> {
     let path = joined(rt.alloc(), folder, name)?;
-    clear(rt, path.as_str())?;
+    // As a rule the folder is a new one of our own: nothing is in the way, and no folder is absent.
     match new_private(rt, path.as_str()) {
-        Err(error) if error.kind() == io::ErrorKind::NotFound => {
-            if let Some((way, _)) = name.rsplit_once('/') {
-                make_along(rt, folder, way)?;
-            }
+        Ok(file) => Ok(file),
+        Err(error) => {
+            make_room(rt, folder, name, path.as_str(), &error)?;
             or_trouble(new_private(rt, path.as_str()))
         }
-        outcome => or_trouble(outcome),
     }
 }
 
-// Removes the file or link at a path, where there is one.
-fn clear<R: Files>(rt: &R, path: &str) -> Result<(), Trouble> {
-    match fs::remove_file(rt, path) {
-        Ok(()) => Ok(()),
-        Err(error) if error.kind() == io::ErrorKind::NotFound => Ok(()),
-        Err(error) => Err(Trouble::from(error)),
+// Makes or removes what kept a file of this name, at this path, from being made. What else it was is trouble.
+fn make_room<R: AllocGlobal + Files>(
+    rt: &R,
+    folder: &str,
+    name: &str,
+    path: &str,
+    error: &io::Error,
+) -> Result<(), Trouble> {
+    match (error.kind(), name.rsplit_once('/')) {
+        (io::ErrorKind::AlreadyExists, _) => where_present(fs::remove_file(rt, path)),
+        (io::ErrorKind::NotFound, Some((way, _))) => make_along(rt, folder, way),
+        _ => Err(Trouble::of(error)),
     }
 }
 
@@ -143,13 +147,8 @@ pub(crate) fn keep_attributes<F: OpenFile>(reader: &F, writer: &F) -> Result<(),
 }
 
 /// Whether a file has the permissions that a copy of another one has.
-pub(crate) fn has_rights_of<R: Files>(
-    rt: &R,
-    file: &Metadata,
-    source: &str,
-) -> Result<bool, Trouble> {
-    let rights = mode_of(fs::metadata(rt, source))? & COPIED_RIGHTS;
-    Ok(file.permissions().mode() & ALL_RIGHTS == rights)
+pub(crate) fn has_rights_of(file: &Metadata, source: &Metadata) -> bool {
+    file.permissions().mode() & ALL_RIGHTS == source.permissions().mode() & COPIED_RIGHTS
 }
 
 /// The mode of what is at a path.

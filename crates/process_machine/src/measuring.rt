@@ -7,7 +7,7 @@ use crate::trusting::Sums;
 use crate::world::World;
 use file_values::FileSum;
 use staging::Measure;
-use std::fs::FileType;
+use std::fs::Metadata;
 use std::{fs, io};
 
 /// Measures what is at a path: nothing, a file with its size and sum, or a folder with all that is below it. A link is
@@ -20,7 +20,7 @@ pub(crate) fn measure_of<R: World>(
     sums: &mut Sums,
 ) -> Result<Measure, Trouble> {
     match fs::metadata(rt, path) {
-        Ok(metadata) => measure_as(rt, path, metadata.file_type(), sums),
+        Ok(metadata) => measure_as(rt, path, &metadata, sums),
         Err(error) => without_metadata(rt, path, &error),
     }
 }
@@ -28,13 +28,13 @@ pub(crate) fn measure_of<R: World>(
 fn measure_as<R: World>(
     rt: &R,
     path: &str,
-    kind: FileType,
+    met: &Metadata,
     sums: &mut Sums,
 ) -> Result<Measure, Trouble> {
-    if kind.is_dir() {
+    if met.is_dir() {
         Ok(Measure::Folder(listing_of(rt, path, Others::Refused, sums)?))
-    } else if kind.is_file() {
-        let FileSum { sum, size } = sums.sum_at(rt, path)?;
+    } else if met.is_file() {
+        let FileSum { sum, size } = sums.sum_at(rt, path, met.len())?;
         Ok(Measure::File { size, sum })
     } else {
         Err(Trouble::Failed)

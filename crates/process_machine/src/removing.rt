@@ -1,5 +1,6 @@
 //! The removal of folders that commands wrote.
 
+use crate::layout::joined;
 use crate::making::{OWNERS_RIGHTS, mode_of, new_folder_in};
 use crate::tree::is_own_folder;
 use crate::trouble::{Trouble, or_trouble};
@@ -37,19 +38,38 @@ fn remove_filled<R: AllocGlobal + Files + Clone + Drop>(rt: &R, folder: &str) ->
     }
 }
 
-// Removes a folder that is no link, where all that is in it are files, and folders that `remove_shallow` removes, as in a work folder.
+// Removes a folder that is no link, where all that is in it are files, and folders that `remove_part` removes, as in a work folder.
 fn remove_in_place<R: AllocGlobal + Files + Clone + Drop>(rt: &R, folder: &str) -> io::Result<()> {
     for entry in fs::read_dir(rt, folder)? {
         if let Ok(entry) = entry {
             if is_folder_left(rt, entry.path().as_str()) {
-                let _removed = remove_shallow(rt, entry.path().as_str());
+                let _removed = remove_part(rt, entry.path().as_str());
             }
         }
     }
     fs::remove_dir(rt, folder)
 }
 
-// The same where these are files, and folders of files.
+// The same where these are files, and folders of files. That of a fetch has only `out`, so it is not listed.
+fn remove_part<R: AllocGlobal + Files + Clone + Drop>(rt: &R, folder: &str) -> io::Result<()> {
+    let out = joined(rt.alloc(), folder, "out")?;
+    if is_filled(rt, out.as_str()) {
+        remove_flat(rt, out.as_str())?;
+    }
+    match fs::remove_dir(rt, folder) {
+        Ok(()) => Ok(()),
+        Err(_) => remove_shallow(rt, folder),
+    }
+}
+
+// Removes an empty folder, and says whether there is one that is not empty. A link is no folder.
+fn is_filled<R: Files>(rt: &R, path: &str) -> bool {
+    match fs::remove_dir(rt, path) {
+        Err(error) => error.kind() == io::ErrorKind::DirectoryNotEmpty,
+        Ok(()) => false,
+    }
+}
+
 fn remove_shallow<R: AllocGlobal + Files + Clone + Drop>(rt: &R, folder: &str) -> io::Result<()> {
     for entry in fs::read_dir(rt, folder)? {
         if let Ok(entry) = entry {

@@ -1,7 +1,7 @@
 //! How jobs' files are archived.
 ghost use Rattle.std.specs.Prelude.{None};
 
-use crate::archive::{beside_folder, key_folder, leads_below, stores_folder};
+use crate::archive::{KeyFolders, beside_folder, key_folders, leads_below};
 use crate::copying::copy_entry;
 use crate::cut_off::clear_stores;
 use crate::entries::{Sink, put_all};
@@ -36,26 +36,26 @@ pub(crate) fn store_all<R: World>(
         return Err(Trouble::Failed);
     };
     fs::create_dir_all(rt, archive)?;
-    clear_stores(rt, archive, key)?;
-    let stores = stores_folder(rt.alloc(), archive, key)?;
-    let stored = store_among(rt, stores.as_str(), archive, key, folder, files);
+    let folders = key_folders(rt.alloc(), archive, key)?;
+    clear_stores(rt, &folders)?;
+    let stored = store_among(rt, &folders, archive, key, folder, files);
     // Another store may go on there.
-    let _removed = fs::remove_dir(rt, stores.as_str());
-    mem::drop(stores);
+    let _removed = fs::remove_dir(rt, folders.stores.as_str());
+    mem::drop(folders);
     stored
 }
 
 fn store_among<R: World>(
     rt: &R,
-    stores: &str,
+    folders: &KeyFolders,
     archive: &str,
     key: &str,
     folder: &str,
     files: &[Found],
 ) -> Result<(), Trouble> {
-    make_own(rt, stores)?;
+    make_own(rt, folders.stores.as_str())?;
     let beside = beside_folder(rt.alloc(), archive, key, folder)?;
-    let stored = store_beside(rt, beside.as_str(), archive, key, folder, files);
+    let stored = store_beside(rt, beside.as_str(), folders.own.as_str(), folder, files);
     mem::drop(beside);
     stored
 }
@@ -64,14 +64,13 @@ fn store_among<R: World>(
 fn store_beside<R: World>(
     rt: &R,
     beside: &str,
-    archive: &str,
-    key: &str,
+    target: &str,
     folder: &str,
     files: &[Found],
 ) -> Result<(), Trouble> {
     make_private(rt, beside)?;
     let stored = match fill_new(rt, beside, folder, files) {
-        Ok(()) => put_in_place(rt, beside, archive, key),
+        Ok(()) => put_in_place(rt, beside, target),
         Err(trouble) => Err(trouble),
     };
     let _removed = fs::remove_dir_all(rt, beside);
@@ -96,14 +95,7 @@ fn fill_folder<R: World>(
     put_all(&mut sink, files)
 }
 
-fn put_in_place<R: World>(rt: &R, beside: &str, archive: &str, key: &str) -> Result<(), Trouble> {
-    let target = key_folder(rt.alloc(), archive, key)?;
-    let put = replace_from(rt, beside, target.as_str());
-    mem::drop(target);
-    put
-}
-
-fn replace_from<R: World>(rt: &R, beside: &str, path: &str) -> Result<(), Trouble> {
+fn put_in_place<R: World>(rt: &R, beside: &str, path: &str) -> Result<(), Trouble> {
     let new = joined(rt.alloc(), beside, "new")?;
     let old = joined(rt.alloc(), beside, "old")?;
     replace(rt, new.as_str(), path, old.as_str())

@@ -3,11 +3,10 @@ ghost use Rattle.std.specs.Prelude.{◌≡◌, Ok, None, IfErr, IsErr};
 ghost use Rattle.process_machine.specs.Listing as spec;
 
 use crate::layout::joined;
-use crate::trouble::{Trouble, or_trouble};
 use crate::unlisted::{NoListing, Obstacle};
 use plain_data::Text;
 use std::alloc::{AllocError, Global};
-use std::fs::{DirEntry, FileType, ReadDir};
+use std::fs::{DirEntry, Metadata, ReadDir};
 use std::rt::Files;
 use std::{fs, io};
 
@@ -21,6 +20,8 @@ pub(crate) struct Below {
     /// The path below that folder, its components joined by `/`.
     pub name: Text,
     pub is_dir: bool,
+    /// The bytes of a file, as the system tells them.
+    pub size: u64,
 }
 
 /// How a pipe, a socket, a device and a link that leads nowhere are taken: they are neither files nor folders.
@@ -171,9 +172,9 @@ fn add_entry<R: AllocGlobal + Files>(
     tree: &mut Vec<Below>,
 ) -> Result<(), NoListing> {
     match kind_at(rt, entry.path().as_str(), others)? {
-        Some(is_dir) => {
+        Some(met) => {
             let name = name_below(rt.alloc(), folder, entry.file_name())?;
-            add_below(rt.alloc(), entry.path().as_str(), name, is_dir, tree)
+            add_below(rt.alloc(), entry.path().as_str(), name, &met, tree)
         }
         None => Ok(()),
     }
@@ -184,25 +185,29 @@ fn add_below(
     alloc: Global,
     path: &str,
     name: Text,
-    is_dir: bool,
+    met: &Metadata,
     tree: &mut Vec<Below>,
 ) -> Result<(), NoListing> {
     match limit_passed(name.as_str(), tree.len()) {
         Some(why) => Err(NoListing::at(alloc, path, why)),
-        None => Ok(tree.push(Below { name, is_dir })?),
+        None => Ok(tree.push(Below {
+            name,
+            is_dir: met.is_dir(),
+            size: met.len(),
+        })?),
     }
 }
 
-// Whether there is a folder at a path, or a file; nothing where it is left out.
+// The folder or file at a path; nothing where it is left out.
 fn kind_at<R: AllocGlobal + Files>(
     rt: &R,
     path: &str,
     others: Others,
-) -> Result<Option<bool>, NoListing>
+) -> Result<Option<Metadata>, NoListing>
     ensures { IfErr result (spec.IsOn path.now) }
 {
     match fs::metadata(rt, path) {
-        Ok(metadata) => kind_of(rt.alloc(), path, metadata.file_type(), others),
+        Ok(metadata) => kind_of(rt.alloc(), path, metadata, others),
         Err(error) if leads_nowhere(error.kind()) => of_no_kind(rt.alloc(), path, others),
         Err(error) => Err(NoListing::of(rt.alloc(), path, &error)),
     }
@@ -211,19 +216,19 @@ fn kind_at<R: AllocGlobal + Files>(
 fn kind_of(
     alloc: Global,
     path: &str,
-    kind: FileType,
+    met: Metadata,
     others: Others,
-) -> Result<Option<bool>, NoListing>
+) -> Result<Option<Metadata>, NoListing>
     ensures { IfErr result (spec.IsOn path.now) }
 {
-    if kind.is_dir() || kind.is_file() {
-        Ok(Some(kind.is_dir()))
+    if met.is_dir() || met.is_file() {
+        Ok(Some(met))
     } else {
         of_no_kind(alloc, path, others)
     }
 }
 
-fn of_no_kind(alloc: Global, path: &str, others: Others) -> Result<Option<bool>, NoListing>
+fn of_no_kind(alloc: Global, path: &str, others: Others) -> Result<Option<Metadata>, NoListing>
     ensures left { others ≡ Others.LeftOut → result ≡ Ok None }
     ensures refused { others ≡ Others.Refused → IsErr result }
     ensures on { IfErr result (spec.IsOn path.now) }
@@ -252,16 +257,6 @@ fn limit_passed(name: &str, before: usize) -> Option<Obstacle>
         Some(Obstacle::TooDeep)
     } else {
         None
-    }
-}
-
-/// Whether there is a folder at a path; what is neither a folder nor a file is trouble.
-pub(crate) fn is_folder<R: Files>(rt: &R, path: &str) -> Result<bool, Trouble> {
-    let kind = or_trouble(fs::metadata(rt, path))?.file_type();
-    if kind.is_dir() || kind.is_file() {
-        Ok(kind.is_dir())
-    } else {
-        Err(Trouble::Failed)
     }
 }
 

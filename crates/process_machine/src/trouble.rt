@@ -1,4 +1,3 @@
-use file_values::FileError;
 use std::alloc::{AllocError, AllocFailed};
 use std::io;
 
@@ -93,15 +92,6 @@ impl Trouble {
         match self {
             Trouble::Hindered(why) => why,
             Trouble::Failed | Trouble::OutOfMemory => Hindrance::Other,
-        }
-    }
-}
-
-impl From<FileError> for Trouble {
-    fn from(error: FileError) -> Trouble {
-        match error {
-            FileError::OutOfMemory => Trouble::OutOfMemory,
-            FileError::Refused(_) => Trouble::Failed,
         }
     }
 }

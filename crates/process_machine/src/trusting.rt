@@ -1,8 +1,9 @@
 //! Sums of files: each is read, or what an earlier machine noted of it stands for it.
 
+use crate::summing::sum_left;
 use crate::trouble::Trouble;
 use crate::world::World;
-use file_values::{FileSum, Watched, sum_of};
+use file_values::FileSum;
 use plain_data::Text;
 use std::alloc::AllocError;
 use std::fs::Metadata;
@@ -37,11 +38,16 @@ impl Sums {
         Ok(Sums { trusted })
     }
 
-    /// Returns the size and the sum of the file at a path.
-    pub(crate) fn sum_at<R: World>(&mut self, rt: &R, path: &str) -> Result<FileSum, Trouble> {
+    /// Returns the size and the sum of the file at a path, which the system says has so many bytes.
+    pub(crate) fn sum_at<R: World>(
+        &mut self,
+        rt: &R,
+        path: &str,
+        size: u64,
+    ) -> Result<FileSum, Trouble> {
         match &mut self.trusted {
-            None => sum_at(rt, path),
-            Some(trusted) => trusted_sum_at(rt, &mut trusted.times, path),
+            None => sum_at(rt, path, size),
+            Some(trusted) => trusted_sum_at(rt, &mut trusted.times, path, size),
         }
     }
 
@@ -54,10 +60,14 @@ impl Sums {
     }
 }
 
-/// Reads the file at a path, once, and sums it.
-pub(crate) fn sum_at<R: World>(rt: &R, path: &str) -> Result<FileSum, Trouble> {
-    let mut reader = Watched::new(fs::open(rt, path)?);
-    Ok(sum_of(rt.alloc(), &mut reader)?)
+/// Reads the file at a path, once, and sums it. It is best read if it has so many bytes.
+pub(crate) fn sum_at<R: World>(rt: &R, path: &str, size: u64) -> Result<FileSum, Trouble> {
+    let mut reader = fs::open(rt, path)?;
+    match sum_left(rt.alloc(), &mut reader, size) {
+        // Why a file that is open can't be read is not told.
+        Err(Trouble::Hindered(_)) => Err(Trouble::Failed),
+        outcome => outcome,
+    }
 }
 
 fn times_in<R: World>(rt: &R, file: &str) -> Result<Times, AllocError> {
@@ -81,10 +91,15 @@ fn written<R: World>(rt: &R, times: &Times, file: &str) -> Result<(), Trouble> {
     Ok(fs::rename(rt, new.as_str(), file)?)
 }
 
-fn trusted_sum_at<R: World>(rt: &R, times: &mut Times, path: &str) -> Result<FileSum, Trouble> {
+fn trusted_sum_at<R: World>(
+    rt: &R,
+    times: &mut Times,
+    path: &str,
+    size: u64,
+) -> Result<FileSum, Trouble> {
     let now = seconds(rt);
     let Some(stamp) = stamp_at(rt, path) else {
-        return sum_at(rt, path);
+        return sum_at(rt, path, size);
     };
     if let Some(sum) = times.sum_at(path, &stamp) {
         return Ok(FileSum {
@@ -92,7 +107,7 @@ fn trusted_sum_at<R: World>(rt: &R, times: &mut Times, path: &str) -> Result<Fil
             size: stamp.size,
         });
     }
-    let found = sum_at(rt, path)?;
+    let found = sum_at(rt, path, size)?;
     if found.size == stamp.size && is_still(rt, path, &stamp) {
         times.note(rt.alloc(), path, stamp, found.sum.copied(rt.alloc())?, now)?;
     }
