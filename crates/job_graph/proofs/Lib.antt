@@ -22,6 +22,7 @@ mod OneOpen
 mod OneTuple
 mod OpenKept
 mod Noting
+mod Once
 mod Outs
 mod Vertices
 mod Quotients

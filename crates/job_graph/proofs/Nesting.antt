@@ -124,7 +124,7 @@ leaves_more old most all xs ys leaves_nothing = leaves_nothing
 leaves_more old most all xs ys (leaves_in m xs1 ys1 leaves) = leaves_in m xs1 ys1 (leaves_more old most all xs1 ys1 leaves)
 leaves_more old most all xs ys (leaves_out m xs1 ys1 at leaves) = leaves_out m xs1 ys1 (all m at) (leaves_more old most all xs1 ys1 leaves)
 
-once_there : (tuple : List ℕ) (some : List (List ℕ)) → times tuple some ≡ 1 → IsIn tuple some
+pub once_there : (tuple : List ℕ) (some : List (List ℕ)) → times tuple some ≡ 1 → IsIn tuple some
 once_there tuple [] once = let no : 0 ≡ 1 = once in absurd (omega (arith, no))
 once_there tuple (one ∷ some) once = by (bytes_eq one tuple) refl (once_there tuple some)
   where

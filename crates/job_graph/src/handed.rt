@@ -1,22 +1,21 @@
 //! What is handed to the process of a step, at one of its tuples where it is scattered.
-ghost use Rattle.std.specs.Prelude.{◌≡◌, ◌≢◌, [], Ok, IfOk, IfSome, true};
+ghost use Rattle.std.specs.Prelude.{◌≡◌, Ok, IfOk, IfSome, true};
 ghost use Rattle.document_links.specs.declared.process.Step.{out-Step};
 ghost use Rattle.link_values.specs.StepInputs.{value_froms};
 ghost use Rattle.job_graph.specs.Equations.{goes_on};
 ghost use Rattle.job_graph.specs.Links.{by_link};
 ghost use Rattle.job_graph.specs.inner.Nested.{Hands, HandsBy, HasAtOne, HasOnce};
-ghost use Rattle.job_graph.specs.inner.OneTuple.{times};
 
 use crate::cause::of_link;
-use crate::held::{is_same_tuple, one_if};
 use crate::links::Env;
 use crate::made::Facts;
-use crate::scatter::{at_tuple, lengths_under, tuples_for};
+use crate::scatter::{at_tuple, lengths_under};
 use crate::step::{Entered, enter, goes_on};
+use crate::tuple::has_tuple;
 use cwl_value::{JobPlace, Value};
 use document_links::Step;
 use link_values::value_froms;
-use plain_data::{Items, Keyed, Text};
+use plain_data::{Keyed, Text};
 use scatter_shape::Method;
 use std::alloc::{AllocError, Global};
 
@@ -69,19 +68,17 @@ fn fields_at(
     fields
 }
 
-#[tactic(auto, using(crate::proofs::Loops::as_many_as_some))]
 fn fields_at_one(
     alloc: Global,
     step: &Step,
     values: &Keyed<Value>,
     tuple: &[usize],
 ) -> Result<Option<Keyed<Value>>, AllocError>
-    requires { (out-Step step.now).scatter ≢ [] }
     ensures { IfOk result (λ found. IfSome found (HasAtOne step.now values.now tuple.now)) }
 {
     match lengths_under(alloc, step.scatter.as_slice(), values)? {
         Ok(lengths) => {
-            if !has_once(alloc, step, lengths, tuple)? {
+            if !has_once(step, lengths.as_slice(), tuple) {
                 return Ok(None);
             }
             Ok(Some(at_tuple(alloc, step.scatter.as_slice(), tuple, values)?))
@@ -91,36 +88,10 @@ fn fields_at_one(
 }
 
 /// Whether a step has the tuple once, for these lengths.
-#[tactic(auto, using(crate::proofs::Loops::never))]
-fn has_once(
-    alloc: Global,
-    step: &Step,
-    lengths: Items<usize>,
-    tuple: &[usize],
-) -> Result<bool, AllocError>
-    requires { lengths ≢ [] }
-    ensures { IfOk result (λ found. found ≡ true → HasOnce step.now lengths tuple.now) }
+fn has_once(step: &Step, lengths: &[usize], tuple: &[usize]) -> bool
+    ensures { result ≡ true → HasOnce step.now lengths.now tuple.now }
 {
-    let method = step.method.unwrap_or(Method::Dotproduct);
-    match tuples_for(alloc, method, lengths.as_slice())? {
-        Ok(tuples) => {
-            let is_once = times(tuple, tuples.as_slice()) == 1;
-            drop(tuples);
-            Ok(is_once)
-        }
-        Err(_cause) => Ok(false),
-    }
-}
-
-/// How often a tuple is among these.
-fn times(tuple: &[usize], tuples: &[Items<usize>]) -> usize
-    ensures { result ≡ times tuple.now tuples.now }
-{
-    let mut count: usize = 0;
-    for one in tuples {
-        count += one_if(is_same_tuple(one.as_slice(), tuple));
-    }
-    count
+    has_tuple(step.method.unwrap_or(Method::Dotproduct), lengths, tuple)
 }
 
 fn handed_from(

@@ -6,13 +6,14 @@ ghost use Rattle.document_links.specs.declared.process.Step.{out-Step};
 ghost use Rattle.job_graph.specs.Equations.{over_lengths, scattered};
 ghost use Rattle.job_graph.specs.inner.Going.{facts_before};
 ghost use Rattle.job_graph.specs.inner.Levels.{step_of};
-ghost use Rattle.job_graph.specs.inner.OneTuple.{HoldsBack, OutsStay, StaysWith, count_known, lacks, lacks_one, one_if, walk_for};
+ghost use Rattle.job_graph.specs.inner.OneTuple.{HoldsBack, HoldsByOne, OutsStay, StaysWith, count_known, lacks, lacks_one, one_if, walk_for};
 ghost use Rattle.job_graph.specs.inner.Rounds.{walk_at};
 
 use crate::links::{Env, out_under};
 use crate::made::Facts;
 use crate::scatter::{lengths_under, tuples_for};
 use crate::step::{Entered, enter, instance_at};
+use crate::tuple::has_tuple;
 use crate::walk::Out;
 use cwl_value::{JobPlace, Value};
 use document_links::Step;
@@ -59,7 +60,7 @@ fn known_count(outs: &[Out]) -> usize
     count
 }
 
-pub(crate) fn one_if(found: bool) -> usize
+fn one_if(found: bool) -> usize
     ensures value { result ≡ one_if found }
     ensures small { result ≤ 1 }
 {
@@ -141,6 +142,9 @@ fn is_held_over(
         (over_lengths (step_of facts.now step.now) id.now place.now values.now (Ok lengths))) }
 {
     let method = step.method.unwrap_or(Method::Dotproduct);
+    if is_held_by_last(alloc, facts, id, step, place, values, outs, tuple, lengths.as_slice())? {
+        return Ok(true);
+    }
     match tuples_for(alloc, method, lengths.as_slice())? {
         Ok(tuples) => {
             let these = tuples.as_slice();
@@ -152,14 +156,48 @@ fn is_held_over(
     }
 }
 
+/// Whether the last tuple holds the outputs back. Jobs end in nearly the order in which they became known, so as a rule it does, and no other
+/// tuple has to be made.
+fn is_held_by_last(
+    alloc: Global,
+    facts: &Facts,
+    id: &Text,
+    step: &Step,
+    place: &JobPlace,
+    values: &Keyed<Value>,
+    outs: &[Out],
+    tuple: &[usize],
+    lengths: &[usize],
+) -> Result<bool, AllocError>
+    ensures { IfOk result (λ held. held ≡ true → HoldsByOne facts.now step.now id.now place.now
+        values.now outs.now lengths.now) }
+{
+    let last = last_tuple(alloc, lengths)?;
+    let method = step.method.unwrap_or(Method::Dotproduct);
+    if !has_tuple(method, lengths, last.as_slice()) {
+        drop(last);
+        return Ok(false);
+    }
+    let held = holds_back(alloc, facts, id, step, place, values, outs, &last, tuple);
+    drop(last);
+    held
+}
+
+fn last_tuple(alloc: Global, lengths: &[usize]) -> Result<Items<usize>, AllocError> {
+    let mut last = Items::new(alloc);
+    for length in lengths {
+        last.push(length.saturating_sub(1))?;
+    }
+    Ok(last)
+}
+
 pub(crate) fn is_same_tuple(one: &[usize], other: &[usize]) -> bool
     ensures { result ≡ bytes_eq one.now other.now }
 {
     one == other
 }
 
-/// Whether a tuple other than this one has no value for each output that the step has none for. Jobs end in nearly the order in which they became
-/// known, so the search begins with the last one.
+/// Whether a tuple other than this one has no value for each output that the step has none for. The search begins with the last one.
 fn is_held_back(
     alloc: Global,
     facts: &Facts,

@@ -40,6 +40,7 @@ mod rounds;
 mod scatter;
 mod sought;
 mod step;
+mod tuple;
 mod unfolding;
 mod waiting;
 mod walk;

@@ -1,5 +1,5 @@
 -- What a step meets and gives, where a place inside one of its tuples was learned.
-use Rattle.std.specs.Prelude.{◌≡◌, ◌⊎◌, ◌||◌, ◌+◌, ℕ, zero, suc, Bool, true, cond, not, List, [], ◌∷◌, Option, Some, None, bytes_eq, is_some, map}
+use Rattle.std.specs.Prelude.{◌≡◌, ◌⊎◌, ◌||◌, ◌+◌, ℕ, zero, suc, Bool, true, cond, not, List, [], ◌∷◌, Option, Some, None, Ok, bytes_eq, is_some, map}
 use Rattle.std.specs.List.{flat_map, list_all}
 use Rattle.std.specs.Map.{keys_of}
 use Rattle.document_links.specs.declared.process.Step.{Step, out-Step}
@@ -8,7 +8,9 @@ use Rattle.job_graph.specs.Apart.{differ}
 use Rattle.job_graph.specs.Words.{Name, Fields, JobPlace}
 use Rattle.job_graph.specs.Jobs.{Met, Outs, Walk}
 use Rattle.job_graph.specs.Links.{Env, out_under}
-use Rattle.job_graph.specs.Scatter.{at_tuple}
+use Rattle.scatter_shape.specs.Tuples.{tuples_of}
+use Rattle.scatter_shape.specs.declared.shape.Method.{Method}
+use Rattle.job_graph.specs.Scatter.{at_tuple, method_of, tuples_for}
 use Rattle.job_graph.specs.Equations.{instance, step_place, step_walk}
 use Rattle.job_graph.specs.More.{IsGrown}
 use Rattle.job_graph.specs.declared.made.Facts.{Facts}
@@ -45,6 +47,11 @@ abbrev pub times : List ℕ → List (List ℕ) → ℕ
 times tuple [] = zero
 times tuple (one ∷ tuples) = one_if (bytes_eq one tuple) + times tuple tuples
 
+-- the lengths have the tuple once, among not too many
+pub record HasTuple (method : Method) (lengths tuple : List ℕ) : Type 0 where
+  pub made : tuples_for method lengths ≡ Ok (tuples_of method lengths)
+  pub once : times tuple (tuples_of method lengths) ≡ 1
+
 -- ---- whether outputs stay
 
 -- how many of the outputs are known
@@ -64,6 +71,11 @@ pub record HoldsBack (facts : Facts) (step : Step) (id : Name) (place : JobPlace
   pub one : List ℕ
   pub among : IsIn one tuples
   pub none : lacks (out-Step step).outputs outs (walk_for facts step id place values one).outs ≡ true
+
+-- the tuples of these lengths have such a one
+pub record HoldsByOne (facts : Facts) (step : Step) (id : Name) (place : JobPlace) (values : Fields) (outs : Outs) (lengths : List ℕ) : Type 0 where
+  pub made : tuples_for (method_of (out-Step step).method) lengths ≡ Ok (tuples_of (method_of (out-Step step).method) lengths)
+  pub holds : HoldsBack facts step id place values outs (tuples_of (method_of (out-Step step).method) lengths)
 
 -- what a walk gave before it gives now, where what is known stays
 abbrev pub OutsStay : Outs → Walk → Walk → Type 0
