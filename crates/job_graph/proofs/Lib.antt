@@ -8,6 +8,7 @@ mod GoingOn
 mod Gone
 mod Grows
 mod Handing
+mod Hearing
 mod Index
 mod Inward
 pub mod Knowing
@@ -25,6 +26,7 @@ mod Noting
 mod Outs
 mod Vertices
 mod Quotients
+mod Reading
 mod RootBegun
 mod RootWalk
 mod Rooted
