@@ -1,10 +1,15 @@
 -- Steps that are walked one after another, and those that read them.
-use Rattle.std.proofs.Common.{◌≡◌, ◌∙◌, ◌⊎◌, inl, inr, ⊎_elim, ℕ, zero, suc, ◌+◌, ◌<◌, List, [], ◌∷◌, ◌++◌, get_or, length, replicate, set, take, Bool, true, false, cond, not, Option, Some, None, bytes_eq, refl, sym, ap, ap₂, subst, subst₂, arith}
-use Rattle.std.specs.Prelude.{◌&&◌, ◌||◌, is_some}
+use Rattle.std.proofs.Common.{◌≡◌, ◌∙◌, ◌⊎◌, inl, inr, ⊎_elim, ℕ, zero, suc, ◌+◌, ◌<◌, List, [], ◌∷◌, ◌++◌, get_or, length, replicate, take, Bool, true, false, cond, drop, not, Option, Some, None, bytes_eq, refl, sym, ap, ap₂, subst, subst₂, arith}
+use Rattle.std.specs.Prelude.{◌&&◌, ◌||◌, ◌==◌, is_some}
+use Rattle.std.specs.BTreeMap.{BTreeMap, IsEmpty, Updates, get, is_at}
 use Rattle.std.specs.List.{list_all, list_any}
-use Rattle.std.specs.Map.{keys_of}
+use Rattle.std.specs.Map.{keys_of, lookup}
+use Rattle.std.specs.Ordering.{is_eq, nat_cmp}
+use Rattle.std.proofs.lemmas.Bool.{eq-eqb, eqb-false, eqb-true}
+use Rattle.std.proofs.Math.Seq.{drop-cons}
 use Rattle.std.proofs.lemmas.List.{length_push, take_more}
 use Rattle.std.proofs.lemmas.List.Folds.{list_any-append}
+use Rattle.std.proofs.lemmas.Map.Lookups.{exact_unsigned}
 use Rattle.std.proofs.lemmas.Slice.Eq.{bytes_eq-Decides}
 use Rattle.document_links.specs.declared.process.Step.{Step}
 use Rattle.plain_data.specs.ByName.{value_at, with_value}
@@ -17,31 +22,38 @@ use Rattle.job_graph.specs.Links.{Env, out_under}
 use Rattle.job_graph.specs.declared.made.Facts.{Facts}
 use Rattle.job_graph.specs.declared.waiting.Going.{Going}
 use Rattle.job_graph.specs.declared.walk.Met.{Met as KeptMet}
-use Rattle.job_graph.specs.inner.Going.{AreKept, AreLookedAt, Goes, IsKept, SameBut, WalksOn, WalksOne, WalksReaders, reads, reads_one}
-use Rattle.job_graph.specs.inner.Rounds.{EnvGrows, Holds, count, is_ready, is_stuck, walk_at}
+use Rattle.job_graph.specs.inner.Going.{AreKept, AreLookedAtBut, Goes, HoldsAt, IsKept, SameBut, WalksOn, WalksOne, WalksReaders, reads, reads_one, stands_in}
+use Rattle.job_graph.specs.inner.Rounds.{EnvGrows, Holds, MeetsBy, count, is_ready, is_stuck, walk_at}
+use Rattle.job_graph.specs.inner.Views.{made_from}
+use Rattle.job_graph.proofs.Index.{is_equal, itself}
 use Rattle.job_graph.proofs.laws_of_walks.Part.{and_left, and_right, neither_one, neither_other, stays_itself}
 use Rattle.job_graph.proofs.laws_of_walks.Reads.{same_but_one, stuck_stays}
-use Rattle.job_graph.proofs.laws_of_walks.Settled.{count_within, grows, grows_on, holds_then, one_more}
+use Rattle.job_graph.proofs.laws_of_walks.Settled.{count_within, grows, grows_on, holds_then, meets_on, none_meet, one_more, ready_stays}
 
 -- ---- lists
 
-pub in_push : {X : Type 0} (x y : X) (xs : List X) → IsIn x (xs ++ y ∷ []) → IsIn x xs ⊎ (x ≡ y)
-in_push x y [] (inl here) = inr here
-in_push x y [] (inr later) = absurd later
-in_push x y (z ∷ zs) (inl here) = inl (inl here)
-in_push x y (z ∷ zs) (inr later) = ⊎_elim (λ one. inl (inr one)) (λ other. inr other) (in_push x y zs later)
+-- an element has a number
+pub number_in : {X : Type 0} (x : X) (xs : List X) → IsIn x xs → (n : ℕ) × ((n < length xs) × (x ≡ get_or xs n x))
+number_in x [] at = absurd at
+number_in x (y ∷ ys) (inl here) = (0, (omega arith, here))
+number_in x (y ∷ ys) (inr later) = let found : (n : ℕ) × ((n < length ys) × (x ≡ get_or ys n x)) = number_in x ys later in (suc found.0, (omega (arith, found.1.0), found.1.1))
+
+pub same_at : {X : Type 0} (xs : List X) (n : ℕ) (s t : X) → n < length xs → s ≡ get_or xs n s → t ≡ get_or xs n t → s ≡ t
+same_at [] n s t below one other = absurd (omega (arith, below))
+same_at (u ∷ us) zero s t below one other = one ∙ sym other
+same_at (u ∷ us) (suc n) s t below one other = let less : n < length us = omega (arith, below) in same_at us n s t less one other
 
 pub all_true : {X : Type 0} (p : X → Bool) (xs : List X) → ((x : X) → IsIn x xs → p x ≡ true) → list_all p xs ≡ true
 all_true p [] all = refl
 all_true p (x ∷ xs) all = ap₂ (λ (a b : Bool). a && b) (all x (inl refl)) (all_true p xs (λ y at. all y (inr at)))
 
-front_more : {X : Type 0} (xs : List X) (i : ℕ) (x : X) → i < length xs → x ≡ get_or xs i x → take (i + 1) xs ≡ take i xs ++ x ∷ []
+pub front_more : {X : Type 0} (xs : List X) (i : ℕ) (x : X) → i < length xs → x ≡ get_or xs i x → take (i + 1) xs ≡ take i xs ++ x ∷ []
 front_more xs i x below is = take_more xs i x below ∙ ap (λ y. take i xs ++ y ∷ []) (sym is)
 
 any_more : {X : Type 0} (p : X → Bool) (xs : List X) (x : X) → list_any p xs ≡ true → list_any p (xs ++ x ∷ []) ≡ true
 any_more p xs x is = list_any-append p xs (x ∷ []) ∙ ap (λ (b : Bool). b || list_any p (x ∷ [])) is
 
-or_true : (a b : Bool) → b ≡ true → (a || b) ≡ true
+pub or_true : (a b : Bool) → b ≡ true → (a || b) ≡ true
 or_true true b is = refl
 or_true false b is = is
 
@@ -74,49 +86,85 @@ kept_one : (changed : List Name) (id : Name) (s : Name × Step) (met : Option (L
 kept_one changed id s None apart kept = list_any-append (bytes_eq s.0) changed (id ∷ []) ∙ ap₂ (λ (a b : Bool). a || b) kept (ap (λ (b : Bool). b || false) apart)
 kept_one changed id s (Some met) apart kept = tt
 
-kept_others : (changed : List Name) (id : Name) (some : List (Name × Step)) (kept : List (Option (List KeptMet))) → list_any (bytes_eq id) (keys_of some) ≡ false
-    → AreKept changed some kept → AreKept (changed ++ id ∷ []) some kept
-kept_others changed id [] [] apart all = tt
-kept_others changed id [] (met ∷ kept) apart all = absurd all
-kept_others changed id (s ∷ ss) [] apart all = absurd all
-kept_others changed id (s ∷ ss) (met ∷ kept) apart all = (
-  kept_one changed id s met (turned id s.0 (neither_one (bytes_eq id s.0) (list_any (bytes_eq id) (keys_of ss)) apart)) all.0,
-  kept_others changed id ss kept (neither_other (bytes_eq id s.0) (list_any (bytes_eq id) (keys_of ss)) apart) all.1,
-)
+-- two numbers of one id are one number
+has_first : (id : Name) (some : List (Name × Step)) (n : ℕ) (t : Name × Step) → n < length some → t ≡ get_or some n t → bytes_eq id t.0 ≡ true → list_any (bytes_eq id) (keys_of some) ≡ true
+has_first id [] n t below is same = absurd (omega (arith, below))
+has_first id (s ∷ ss) zero t below is same = ap (λ (u : Name × Step). bytes_eq id u.0 || list_any (bytes_eq id) (keys_of ss)) (sym is) ∙ ap (λ (b : Bool). b || list_any (bytes_eq id) (keys_of ss)) same
+has_first id (s ∷ ss) (suc n) t below is same =
+    let less : n < length ss = omega (arith, below) in or_true (bytes_eq id s.0) (list_any (bytes_eq id) (keys_of ss)) (has_first id ss n t less is same)
 
-apart_from : (id : Name) (some : List (Name × Step)) (n : ℕ) (t : Name × Step) → list_any (bytes_eq id) (keys_of some) ≡ false → n < length some → t ≡ get_or some n t → bytes_eq id t.0 ≡ false
-apart_from id [] n t apart below is = absurd (omega (arith, below))
-apart_from id (s ∷ ss) zero t apart below is = ap (λ (u : Name × Step). bytes_eq id u.0) is ∙ neither_one (bytes_eq id s.0) (list_any (bytes_eq id) (keys_of ss)) apart
-apart_from id (s ∷ ss) (suc n) t apart below is =
-    let less : n < length ss = omega (arith, below) in apart_from id ss n t (neither_other (bytes_eq id s.0) (list_any (bytes_eq id) (keys_of ss)) apart) less is
+none_there : (b : Bool) → not b ≡ true → b ≡ true → ⊥
+none_there true one other = absurd cc
+none_there false one other = absurd cc
 
-pub kept_set : (changed : List Name) (met : List KeptMet) (some : List (Name × Step)) (kept : List (Option (List KeptMet))) (n : ℕ) (t : Name × Step)
-    → differ (keys_of some) ≡ true → n < length some → t ≡ get_or some n t → AreKept changed some kept → AreKept (changed ++ t.0 ∷ []) some (set kept n (Some met))
-kept_set changed met [] kept n t apart below is all = absurd (omega (arith, below))
-kept_set changed met (s ∷ ss) [] n t apart below is all = absurd all
-kept_set changed met (s ∷ ss) (k ∷ ks) zero t apart below is all =
-    let alone : list_any (bytes_eq s.0) (keys_of ss) ≡ false = not_true (list_any (bytes_eq s.0) (keys_of ss)) (and_left (not (list_any (bytes_eq s.0) (keys_of ss))) (differ (keys_of ss)) apart) in
-    (tt, kept_others changed t.0 ss ks (ap (λ (u : Name × Step). list_any (bytes_eq u.0) (keys_of ss)) is ∙ alone) all.1)
-kept_set changed met (s ∷ ss) (k ∷ ks) (suc n) t apart below is all =
-    let less : n < length ss = omega (arith, below) in
-    let alone : list_any (bytes_eq s.0) (keys_of ss) ≡ false = not_true (list_any (bytes_eq s.0) (keys_of ss)) (and_left (not (list_any (bytes_eq s.0) (keys_of ss))) (differ (keys_of ss)) apart) in (
-      kept_one changed t.0 s k (apart_from s.0 ss n t alone less is) all.0,
-      kept_set changed met ss ks n t (and_right (not (list_any (bytes_eq s.0) (keys_of ss))) (differ (keys_of ss)) apart) less is all.1,
-    )
+pub one_number : (some : List (Name × Step)) → differ (keys_of some) ≡ true → (n m : ℕ) (s t : Name × Step) → n < length some → s ≡ get_or some n s → m < length some → t ≡ get_or some m t
+    → bytes_eq s.0 t.0 ≡ true → n ≡ m
+one_number [] apart n m s t below at within there same = absurd (omega (arith, below))
+one_number (u ∷ us) apart zero zero s t below at within there same = refl
+one_number (u ∷ us) apart zero (suc m) s t below at within there same =
+    let less : m < length us = omega (arith, within) in
+    absurd (none_there (list_any (bytes_eq u.0) (keys_of us)) (and_left (not (list_any (bytes_eq u.0) (keys_of us))) (differ (keys_of us)) apart)
+    (has_first u.0 us m t less there (ap (λ (v : Name × Step). bytes_eq v.0 t.0) (sym at) ∙ same)))
+one_number (u ∷ us) apart (suc n) zero s t below at within there same =
+    let less : n < length us = omega (arith, below) in
+    absurd (none_there (list_any (bytes_eq u.0) (keys_of us)) (and_left (not (list_any (bytes_eq u.0) (keys_of us))) (differ (keys_of us)) apart)
+    (has_first u.0 us n s less at (ap (λ (v : Name × Step). bytes_eq v.0 s.0) (sym there) ∙ (bytes_eq-Decides t.0 s.0).1 (sym ((bytes_eq-Decides s.0 t.0).0 same)))))
+one_number (u ∷ us) apart (suc n) (suc m) s t below at within there same =
+    let less : n < length us = omega (arith, below) in
+    let fits : m < length us = omega (arith, within) in
+    ap suc (one_number us (and_right (not (list_any (bytes_eq u.0) (keys_of us))) (differ (keys_of us)) apart) n m s t less at fits there same)
+
+-- what is there once one more is put
+module _ (old new : BTreeMap ℕ (List KeptMet)) (n : ℕ) (met : List KeptMet) (put : Updates nat_cmp old new n (Some met)) where
+  pub here_now : (m : ℕ) → n ≡ m → get nat_cmp new m ≡ Some met
+  here_now m same = put.0 m ∙ ap (λ (b : Bool). cond b (Some met) (get nat_cmp old m)) (ap (λ (k : ℕ). is_eq (nat_cmp n k)) (sym same) ∙ itself n)
+
+  pub there_still : (m : ℕ) → (n ≡ m → ⊥) → get nat_cmp new m ≡ get nat_cmp old m
+  there_still m other = put.0 m ∙ ap (λ (b : Bool). cond b (Some met) (get nat_cmp old m)) (by (is_eq (nat_cmp n m)) refl)
+    where
+      by : (b : Bool) → is_eq (nat_cmp n m) ≡ b → is_eq (nat_cmp n m) ≡ false
+      by true is = absurd (other (exact_unsigned n m (is_equal (nat_cmp n m) is)))
+      by false is = is
+
+  -- at each number
+  pub put_each : (P : ℕ → Option (List KeptMet) → Type 0) → P n (Some met) → (m : ℕ) → ((n ≡ m → ⊥) → P m (get nat_cmp old m)) → P m (get nat_cmp new m)
+  put_each P here m there = by (n == m) refl
+    where
+      by : (b : Bool) → (n == m) ≡ b → P m (get nat_cmp new m)
+      by true is = let same : n ≡ m = eqb-true n m is in subst (P m) (sym (here_now m same)) (subst (λ (k : ℕ). P k (Some met)) same here)
+      by false is = subst (P m) (sym (there_still m (eqb-false n m is))) (there (eqb-false n m is))
+
+pub kept_put : (changed : List Name) (steps : List (Name × Step)) → differ (keys_of steps) ≡ true → (old new : BTreeMap ℕ (List KeptMet)) (n : ℕ) (t : Name × Step) (met : List KeptMet)
+    → Updates nat_cmp old new n (Some met) → n < length steps → t ≡ get_or steps n t → AreKept changed steps old → AreKept (changed ++ t.0 ∷ []) steps new
+kept_put changed steps apart old new n t met put inside is kept = λ m s below at.
+    put_each old new n met put (λ (k : ℕ) (slot : Option (List KeptMet)). IsKept (changed ++ t.0 ∷ []) s slot) tt m
+    (λ other. kept_one changed t.0 s (get nat_cmp old m) (by m s below at other (bytes_eq s.0 t.0) refl) (kept m s below at))
+  where
+    by : (m : ℕ) (s : Name × Step) → m < length steps → s ≡ get_or steps m s → (n ≡ m → ⊥) → (b : Bool) → bytes_eq s.0 t.0 ≡ b → bytes_eq s.0 t.0 ≡ false
+    by m s below at other true same = absurd (other (sym (one_number steps apart m n s t below at inside is same)))
+    by m s below at other false same = same
+
+pub nothing_at : (kept : BTreeMap ℕ (List KeptMet)) → IsEmpty kept → (n : ℕ) → get nat_cmp kept n ≡ None
+nothing_at kept none n = ap (lookup (is_at (nat_cmp n))) none
 
 -- nothing is kept of steps none of which changed
-pub none_kept : (some : List (Name × Step)) → AreKept [] some (replicate (length some) None)
-none_kept [] = tt
-none_kept (s ∷ ss) = (refl, none_kept ss)
+pub nothing_kept : (steps : List (Name × Step)) (kept : BTreeMap ℕ (List KeptMet)) → IsEmpty kept → AreKept [] steps kept
+nothing_kept steps kept none = λ n s below at. subst (IsKept [] s) (sym (nothing_at kept none n)) refl
 
 -- ---- steps are walked
 
+-- a step that is not stuck has its inputs
+free_ready : (walked ready : Bool) → (walked || not ready) ≡ false → ready ≡ true
+free_ready true ready free = absurd cc
+free_ready false true free = refl
+free_ready false false free = absurd cc
+
 module _ (facts : Facts) (place : JobPlace) (inputs : Fields) (steps : List (Name × Step)) (apart : differ (keys_of steps) ≡ true) where
   -- none yet
-  pub walks_none : (going : Going) → Holds facts place inputs steps going.settled.outs going.settled.met.items → WalksOn facts place inputs steps going going
+  pub walks_none : (going : Going) → HoldsAt facts place inputs steps going.env going.met → WalksOn facts place inputs steps going going
   walks_none going holds = record {
     holds = holds;
-    grown = λ step name. stays_itself (out_under name (value_at step going.settled.outs));
+    grown = λ step name. stays_itself (out_under name (value_at step going.env));
     same = λ id none. refl;
     changed = λ id is. is;
     slots = λ kept. kept;
@@ -127,7 +175,7 @@ module _ (facts : Facts) (place : JobPlace) (inputs : Fields) (steps : List (Nam
   pub goes_further : (old : Env) (going new : Going) → Goes facts place inputs steps old going → WalksOn facts place inputs steps going new → Goes facts place inputs steps old new
   goes_further old going new goes on = record {
     holds = on.holds;
-    grown = grows_on facts place inputs steps old going.settled.outs new.settled.outs goes.grown on.grown;
+    grown = grows_on facts place inputs steps old going.env new.env goes.grown on.grown;
     same = λ id none. on.same id none ∙ goes.same id (by id (list_any (bytes_eq id) going.changed) refl none);
     slots = on.slots goes.slots;
   }
@@ -137,35 +185,56 @@ module _ (facts : Facts) (place : JobPlace) (inputs : Fields) (steps : List (Nam
       by id false is none = is
 
   module _ (old cur new : Going) (on : WalksOn facts place inputs steps old cur) (n : ℕ) (t : Name × Step) (inside : n < length steps) (here_is : t ≡ get_or steps n t)
-      (free : is_stuck cur.settled.outs t ≡ false) (one : WalksOne facts place inputs t n cur new) where
+      (free : is_stuck cur.env t ≡ false) (one : WalksOne facts place inputs t n cur new) where
     abbrev outs : Outs
-    outs = (walk_at facts place inputs cur.settled.outs t).outs
+    outs = (walk_at facts place inputs cur.env t).outs
+
+    -- as `Settled` has it
+    abbrev none : List (Option (List KeptMet))
+    none = replicate (length steps) None
+
+    as_held : Holds facts place inputs steps cur.env none
+    as_held = record { keeps = on.holds.keeps; met = none_meet facts place inputs steps cur.env steps }
+
+    grown_one : EnvGrows cur.env (with_value t.0 outs cur.env)
+    grown_one = grows facts place inputs steps apart cur.env none n t inside here_is free as_held
+
+    ready_one : is_ready (with_value t.0 outs cur.env) t.1 ≡ true
+    ready_one = ready_stays facts.measures (made_from facts) place inputs cur.env (with_value t.0 outs cur.env) grown_one t (free_ready (is_some (value_at t.0 cur.env)) (is_ready cur.env t.1) free)
 
     abbrev later : Env
-    later = with_value t.0 outs cur.settled.outs
+    later = with_value t.0 outs cur.env
 
-    holds_now : Holds facts place inputs steps new.settled.outs new.settled.met.items
+    met_now : (m : ℕ) (s : Name × Step) → m < length steps → s ≡ get_or steps m s → MeetsBy facts place inputs later s (get nat_cmp new.met m)
+    met_now m s below at =
+        put_each cur.met new.met n one.met one.kept (λ (k : ℕ) (slot : Option (List KeptMet)). (u : Name × Step) → k < length steps → u ≡ get_or steps k u → MeetsBy facts place inputs later u slot)
+        (λ u within there. subst (λ (v : Name × Step). MeetsBy facts place inputs later v (Some one.met)) (same_at steps n t u inside here_is there) (meets_on facts place inputs steps cur.env later grown_one t (Some one.met) (free_ready (is_some (value_at t.0 cur.env)) (is_ready cur.env t.1) free, one.is)))
+        m (λ other u within there. meets_on facts place inputs steps cur.env later grown_one u (get nat_cmp cur.met m) (on.holds.met m u within there)) s below at
+
+    within_now : (m : ℕ) → is_some (get nat_cmp new.met m) ≡ true → m < length steps
+    within_now m =
+        put_each cur.met new.met n one.met one.kept (λ (k : ℕ) (slot : Option (List KeptMet)). is_some slot ≡ true → k < length steps) (λ some. inside) m (λ other. on.holds.within m)
+
+    holds_now : HoldsAt facts place inputs steps new.env new.met
     holds_now =
-        subst₂ (Holds facts place inputs steps) (sym one.env) (sym one.kept)
-        (holds_then facts place inputs steps apart cur.settled.outs cur.settled.met.items n t inside here_is free on.holds one.met one.is)
+        subst (λ (env : Env). HoldsAt facts place inputs steps env new.met) (sym one.env)
+        (record { keeps = (holds_then facts place inputs steps apart cur.env none n t inside here_is free as_held one.met one.is).keeps; met = met_now; within = within_now })
 
-    grown_now : EnvGrows old.settled.outs new.settled.outs
-    grown_now =
-        grows_on facts place inputs steps old.settled.outs cur.settled.outs new.settled.outs on.grown
-        (subst (EnvGrows cur.settled.outs) (sym one.env) (grows facts place inputs steps apart cur.settled.outs cur.settled.met.items n t inside here_is free on.holds))
+    grown_now : EnvGrows old.env new.env
+    grown_now = grows_on facts place inputs steps old.env cur.env new.env on.grown (subst (EnvGrows cur.env) (sym one.env) grown_one)
 
-    same_now : SameBut new.changed old.settled.outs new.settled.outs
+    same_now : SameBut new.changed old.env new.env
     same_now = λ id none.
         let parts : (list_any (bytes_eq id) cur.changed || (bytes_eq id t.0 || false)) ≡ false =
         sym (ap (list_any (bytes_eq id)) one.changed ∙ list_any-append (bytes_eq id) cur.changed (t.0 ∷ [])) ∙ none in
         ap (value_at id) one.env
-        ∙ same_but_one t.0 outs cur.settled.outs id (neither_other (list_any (bytes_eq id) cur.changed) (bytes_eq id t.0 || false) parts)
+        ∙ same_but_one t.0 outs cur.env id (neither_other (list_any (bytes_eq id) cur.changed) (bytes_eq id t.0 || false) parts)
         ∙ on.same id (neither_one (list_any (bytes_eq id) cur.changed) (bytes_eq id t.0 || false) parts)
 
-    more_now : count cur.settled.outs steps < count new.settled.outs steps
+    more_now : count cur.env steps < count new.env steps
     more_now =
-        subst (λ (env : Env). count cur.settled.outs steps < count env steps) (sym one.env)
-        (one_more facts place inputs steps apart cur.settled.outs cur.settled.met.items n t inside here_is free on.holds)
+        subst (λ (env : Env). count cur.env steps < count env steps) (sym one.env)
+        (one_more facts place inputs steps apart cur.env none n t inside here_is free as_held)
 
     pub walks_more : WalksOn facts place inputs steps old new
     walks_more =
@@ -175,85 +244,74 @@ module _ (facts : Facts) (place : JobPlace) (inputs : Fields) (steps : List (Nam
           grown = grown_now;
           same = same_now;
           changed = λ id is. ap (list_any (bytes_eq id)) one.changed ∙ any_more (bytes_eq id) cur.changed t.0 (on.changed id is);
-          slots = λ kept. subst₂ (λ (ids : List Name) (met : List (Option (List KeptMet))). AreKept ids steps met) (sym one.changed) (sym one.kept)
-              (kept_set cur.changed one.met steps cur.settled.met.items n t apart inside here_is (on.slots kept));
-          fewer = omega (arith, on.fewer, more_now, pending, count_within new.settled.outs steps);
+          slots = λ kept. subst (λ (ids : List Name). AreKept ids steps new.met) (sym one.changed) (kept_put cur.changed steps apart cur.met new.met n t one.met one.kept inside here_is (on.slots kept));
+          fewer = omega (arith, on.fewer, more_now, pending, count_within new.env steps);
         }
 
     -- those that read it are still to be looked at
-    looked_later : (pending : List Name) (some : List (Name × Step)) → AreLookedAt cur.settled.outs pending some → AreLookedAt later (pending ++ t.0 ∷ []) some
-    looked_later pending some looked = λ s among. ⊎_elim (λ stuck. by s (reads t.0 s.1) refl stuck) (λ reading. inr (any_more (λ (id : Name). reads id s.1) pending t.0 reading)) (looked s among)
+    pub left_now : (row : List ℕ) → AreLookedAtBut row cur.env cur.pending steps → AreLookedAtBut row new.env new.pending steps
+    left_now row left = λ m s below at. subst₂ (λ (env : Env) (ids : List Name). (is_stuck env s ≡ true) ⊎ ((reads_one ids s.1 ≡ true) ⊎ (stands_in m row ≡ true))) (sym one.env) (sym one.pending)
+        (⊎_elim (λ stuck. by s (reads t.0 s.1) refl stuck) (λ others. ⊎_elim (λ reading. inr (inl (any_more (λ (id : Name). reads id s.1) cur.pending t.0 reading))) (λ there. inr (inr there)) others) (left m s below at))
       where
-        by : (s : Name × Step) (b : Bool) → reads t.0 s.1 ≡ b → is_stuck cur.settled.outs s ≡ true → (is_stuck later s ≡ true) ⊎ (reads_one (pending ++ t.0 ∷ []) s.1 ≡ true)
-        by s true is stuck = inr (any_last (λ (id : Name). reads id s.1) pending t.0 is)
-        by s false is stuck = inl (stuck_stays t.0 outs cur.settled.outs s is stuck)
+        by : {Left : Type 0} (s : Name × Step) (b : Bool) → reads t.0 s.1 ≡ b → is_stuck cur.env s ≡ true → (is_stuck later s ≡ true) ⊎ ((reads_one (cur.pending ++ t.0 ∷ []) s.1 ≡ true) ⊎ Left)
+        by s true is stuck = inr (inl (any_last (λ (id : Name). reads id s.1) cur.pending t.0 is))
+        by s false is stuck = inl (stuck_stays t.0 outs cur.env s is stuck)
 
-    pub looked_now : (pending now : List Name) (some : List (Name × Step)) → now ≡ pending ++ t.0 ∷ [] → AreLookedAt cur.settled.outs pending some → AreLookedAt new.settled.outs now some
-    looked_now pending now some is looked =
-        subst₂ (λ (env : Env) (ids : List Name). AreLookedAt env ids some) (sym one.env) (sym is) (looked_later pending some looked)
-
-    pub walked_now : is_stuck new.settled.outs t ≡ true
+    pub walked_now : is_stuck new.env t ≡ true
     walked_now =
         ap (λ (env : Env). is_stuck env t) one.env
         ∙ ap (λ (o : Option Outs). is_some o || not (is_ready later t.1))
-        (value_at-with_value t.0 t.0 outs cur.settled.outs ∙ ap (λ (b : Bool). cond b (Some outs) (value_at t.0 cur.settled.outs)) (name_itself t.0))
+        (value_at-with_value t.0 t.0 outs cur.env ∙ ap (λ (b : Bool). cond b (Some outs) (value_at t.0 cur.env)) (name_itself t.0))
 
 -- ---- those that read one step
 
--- the first ones were looked at
-pub record Reading (facts : Facts) (place : JobPlace) (inputs : Fields) (steps : List (Name × Step)) (id : Name) (old : Going) (n : ℕ) (cur : Going) : Type 0 where
+pub stands_at : (row : List ℕ) (i : ℕ) → i < length row → stands_in (get_or row i 0) row ≡ true
+stands_at [] i below = absurd (omega (arith, below))
+stands_at (n ∷ ns) zero below = ap (λ (b : Bool). b || stands_in n ns) (eq-eqb n n refl)
+stands_at (n ∷ ns) (suc i) below = let less : i < length ns = omega (arith, below) in or_true (n == get_or ns i 0) (stands_in (get_or ns i 0) ns) (stands_at ns i less)
+
+pub drop_next : {X : Type 0} (xs : List X) (i : ℕ) (x : X) → i < length xs → drop i xs ≡ get_or xs i x ∷ drop (i + 1) xs
+drop_next xs i x below = let next : suc i ≡ i + 1 = omega arith in drop-cons xs i x below ∙ ap (λ (n : ℕ). get_or xs i x ∷ drop n xs) next
+
+-- the rest are left
+pub record Reading (facts : Facts) (place : JobPlace) (inputs : Fields) (steps : List (Name × Step)) (old : Going) (rest : List ℕ) (cur : Going) : Type 0 where
   pub on : WalksOn facts place inputs steps old cur
-  pub all : AreLookedAt cur.settled.outs (id ∷ cur.pending) steps
-  pub front : AreLookedAt cur.settled.outs cur.pending (take n steps)
+  pub left : AreLookedAtBut rest cur.env cur.pending steps
 
-module _ (facts : Facts) (place : JobPlace) (inputs : Fields) (steps : List (Name × Step)) (apart : differ (keys_of steps) ≡ true) (id : Name) (old : Going) where
-  abbrev ReadingTo : ℕ → Going → Type 0
-  ReadingTo = Reading facts place inputs steps id old
+module _ (facts : Facts) (place : JobPlace) (inputs : Fields) (steps : List (Name × Step)) (apart : differ (keys_of steps) ≡ true) (old : Going) where
+  abbrev ReadingTo : List ℕ → Going → Type 0
+  ReadingTo = Reading facts place inputs steps old
 
-  pub reading_first : Holds facts place inputs steps old.settled.outs old.settled.met.items → AreLookedAt old.settled.outs (id ∷ old.pending) steps → ReadingTo 0 old
-  reading_first holds looked = record { on = walks_none facts place inputs steps apart old holds; all = looked; front = λ s among. absurd among }
+  pub reading_first : (row : List ℕ) → HoldsAt facts place inputs steps old.env old.met → AreLookedAtBut row old.env old.pending steps → ReadingTo row old
+  reading_first row holds left = record { on = walks_none facts place inputs steps apart old holds; left = left }
 
-  module _ (n : ℕ) (cur : Going) (t : Name × Step) (inside : n < length steps) (here_is : t ≡ get_or steps n t) (reading : ReadingTo n cur) where
-    pushed : (env : Env) (pending : List Name) → AreLookedAt env pending (take n steps) → (is_stuck env t ≡ true) ⊎ (reads_one pending t.1 ≡ true) → AreLookedAt env pending (take (n + 1) steps)
-    pushed env pending front last = λ s among.
-        ⊎_elim (λ earlier. front s earlier)
-        (λ same. subst (λ (u : Name × Step). (is_stuck env u ≡ true) ⊎ (reads_one pending u.1 ≡ true)) (sym same) last)
-        (in_push s t (take n steps) (subst (λ (some : List (Name × Step)). IsIn s some) (front_more steps n t inside here_is) among))
+  -- one that is stuck is past
+  past_one : (n : ℕ) (rest : List ℕ) (cur : Going) (t : Name × Step) → n < length steps → t ≡ get_or steps n t → is_stuck cur.env t ≡ true
+      → AreLookedAtBut (n ∷ rest) cur.env cur.pending steps → AreLookedAtBut rest cur.env cur.pending steps
+  past_one n rest cur t inside here_is stuck left = λ m s below at. ⊎_elim (λ is. inl is) (λ others. ⊎_elim (λ reading. inr (inl reading)) (λ there. by m s at (n == m) refl there) others) (left m s below at)
+    where
+      by : (m : ℕ) (s : Name × Step) → s ≡ get_or steps m s → (b : Bool) → (n == m) ≡ b → ((n == m) || stands_in m rest) ≡ true → (is_stuck cur.env s ≡ true) ⊎ ((reads_one cur.pending s.1 ≡ true) ⊎ (stands_in m rest ≡ true))
+      by m s at true same there =
+          inl (ap (is_stuck cur.env) (same_at steps n s t inside (subst (λ (k : ℕ). s ≡ get_or steps k s) (sym (eqb-true n m same)) at) here_is) ∙ stuck)
+      by m s at false other there = inr (inr (sym (ap (λ (b : Bool). b || stands_in m rest) other) ∙ there))
 
-    pub reading_walked : (new : Going) → is_stuck cur.settled.outs t ≡ false → WalksOne facts place inputs t n cur new → ReadingTo (n + 1) new
+  module _ (n : ℕ) (rest : List ℕ) (cur : Going) (t : Name × Step) (inside : n < length steps) (here_is : t ≡ get_or steps n t) (reading : ReadingTo (n ∷ rest) cur) where
+    pub reading_walked : (new : Going) → is_stuck cur.env t ≡ false → WalksOne facts place inputs t n cur new → ReadingTo rest new
     reading_walked new free one = record {
       on = walks_more facts place inputs steps apart old cur new reading.on n t inside here_is free one;
-      all = looked_now facts place inputs steps apart old cur new reading.on n t inside here_is free one (id ∷ cur.pending) (id ∷ new.pending) steps (ap (λ (ids : List Name). id ∷ ids) one.pending) reading.all;
-      front = pushed new.settled.outs new.pending
-          (looked_now facts place inputs steps apart old cur new reading.on n t inside here_is free one cur.pending new.pending (take n steps) one.pending reading.front)
-          (inl (walked_now facts place inputs steps apart old cur new reading.on n t inside here_is free one));
+      left = past_one n rest new t inside here_is (walked_now facts place inputs steps apart old cur new reading.on n t inside here_is free one)
+          (left_now facts place inputs steps apart old cur new reading.on n t inside here_is free one (n ∷ rest) reading.left);
     }
 
-    pub reading_past : (reads id t.1 ≡ false) ⊎ (is_stuck cur.settled.outs t ≡ true) → IsIn t steps → ReadingTo (n + 1) cur
-    reading_past why among = record {
-      on = reading.on;
-      all = reading.all;
-      front = pushed cur.settled.outs cur.pending reading.front (⊎_elim (λ none. by none (reading.all t among)) (λ stuck. inl stuck) why);
-    }
-      where
-        by : reads id t.1 ≡ false → (is_stuck cur.settled.outs t ≡ true) ⊎ ((reads id t.1 || reads_one cur.pending t.1) ≡ true) → (is_stuck cur.settled.outs t ≡ true) ⊎ (reads_one cur.pending t.1 ≡ true)
-        by none (inl stuck) = inl stuck
-        by none (inr some) = inr (sym (ap (λ (b : Bool). b || reads_one cur.pending t.1) none) ∙ some)
+    pub reading_past : is_stuck cur.env t ≡ true → ReadingTo rest cur
+    reading_past stuck = record { on = reading.on; left = past_one n rest cur t inside here_is stuck reading.left }
 
-  pub reading_done : (n : ℕ) (cur : Going) → take n steps ≡ steps → ReadingTo n cur → WalksReaders facts place inputs steps old cur
-  reading_done n cur whole reading = record {
+  pub reading_done : (cur : Going) → ReadingTo [] cur → WalksReaders facts place inputs steps old cur
+  reading_done cur reading = record {
     on = reading.on;
-    looked = subst (AreLookedAt cur.settled.outs cur.pending) whole reading.front;
+    looked = λ s among. let there : (n : ℕ) × ((n < length steps) × (s ≡ get_or steps n s)) = number_in s steps among in
+        ⊎_elim (λ stuck. inl stuck) (λ others. ⊎_elim (λ reads. inr reads) (λ none. absurd (no_one none)) others) (reading.left there.0 s there.1.0 there.1.1);
   }
-
--- ---- whether a step is walked next
-
-pub due : (reads stuck : Bool) → (reads && not stuck) ≡ true → stuck ≡ false
-due true true is = absurd cc
-due true false is = refl
-due false stuck is = absurd cc
-
-pub not_due : (reads stuck : Bool) → (reads && not stuck) ≡ false → (reads ≡ false) ⊎ (stuck ≡ true)
-not_due false stuck is = inl refl
-not_due true true is = inr refl
-not_due true false is = absurd cc
+    where
+      no_one : false ≡ true → ⊥
+      no_one is = cc

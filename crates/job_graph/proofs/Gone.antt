@@ -1,10 +1,9 @@
 -- What the steps of a workflow meet once others were walked, but for what was met before.
-use Rattle.std.proofs.Common.{◌≡◌, ◌∙◌, ◌⊎◌, inl, inr, ⊎_elim, ℕ, ◌+◌, ◌<◌, List, [], ◌∷◌, ◌++◌, get_or, length, map, replicate, set, take, Bool, true, false, not, Option, Some, None, bytes_eq, refl, sym, ap, subst, subst₂, append-nil}
+use Rattle.std.proofs.Common.{◌≡◌, ◌∙◌, ◌⊎◌, inl, inr, ⊎_elim, ℕ, ◌<◌, List, [], ◌∷◌, ◌++◌, get_or, length, map, Bool, true, false, not, Option, Some, None, bytes_eq, refl, sym, ap, subst, subst₂}
 use Rattle.std.specs.Prelude.{◌||◌, is_some}
+use Rattle.std.specs.BTreeMap.{IsEmpty}
 use Rattle.std.specs.List.{flat_map, list_all, list_any}
 use Rattle.std.specs.Map.{keys_of}
-use Rattle.std.proofs.lemmas.Grind.{flat_map-append}
-use Rattle.std.proofs.lemmas.List.{map-append, take_more}
 use Rattle.std.proofs.lemmas.Slice.Eq.{bytes_eq-Decides}
 use Rattle.cwl_process.specs.declared.workflow.WorkflowOutput.{WorkflowOutput}
 use Rattle.document_links.specs.declared.process.Step.{Step}
@@ -17,18 +16,20 @@ use Rattle.job_graph.specs.Links.{Env, given, output_value}
 use Rattle.job_graph.specs.Equations.{StepMeaning, fault_at, step_meaning_of, step_walk}
 use Rattle.job_graph.specs.declared.made.Facts.{Facts}
 use Rattle.job_graph.specs.declared.waiting.Going.{Going}
+use Rattle.job_graph.specs.declared.readers.Readers.{Readers}
 use Rattle.job_graph.specs.declared.walk.Met.{Met as KeptMet}
-use Rattle.job_graph.specs.inner.Going.{AreKept, AreLookedAt, EndedBelow, Goes, HasAbove, HasGone, LeavesOut, leaves_nothing, leaves_in, leaves_out, WalksOn, WalksOne, WasMet, facts_before, goes_through, reads, reads_one}
+use Rattle.job_graph.specs.inner.Going.{AreKept, AreLookedAt, AreLookedAtBut, EndedBelow, Goes, HasAbove, HasGone, HoldsAt, LeavesOut, leaves_nothing, leaves_in, leaves_out, WalksOn, WalksOne, WasMet, facts_before, goes_through, reads, reads_one, stands_in}
 use Rattle.job_graph.specs.inner.Levels.{steps_of, steps_walk}
-use Rattle.job_graph.specs.inner.Rounds.{EnvGrows, Holds, IsSettled, StandsBy, is_ready, is_stuck, walk_at}
+use Rattle.job_graph.specs.inner.Readers.{IsTableOf, row_of}
+use Rattle.job_graph.specs.inner.Rounds.{EnvGrows, IsSettled, MeetsBy, StandsBy, is_ready, is_stuck, walk_at}
 use Rattle.job_graph.specs.inner.Views.{made_from, met_of}
 use Rattle.job_graph.proofs.Going.{grown_k, keeps_k, keeps_still, ready_k, walk_k}
-use Rattle.job_graph.proofs.GoingOn.{all_true, any_turned, kept_set, none_kept}
+use Rattle.job_graph.proofs.GoingOn.{all_true, any_turned, kept_put, nothing_at, nothing_kept, put_each, same_at}
 use Rattle.job_graph.proofs.SettledWalk.{settled_walk}
 use Rattle.job_graph.proofs.laws_of_walks.GoesOn.{step_alike}
 use Rattle.job_graph.proofs.laws_of_walks.Part.{stays_itself}
 use Rattle.job_graph.proofs.laws_of_walks.Reads.{entries_same, same_but_one, stuck_stays}
-use Rattle.job_graph.proofs.laws_of_walks.Settled.{all_set, each_of, is_element, none_meet, waits_walk, walk_by, walk_stays}
+use Rattle.job_graph.proofs.laws_of_walks.Settled.{each_of, is_element, waits_walk, walk_by, walk_stays}
 
 -- ---- what is met, but for what was met before
 
@@ -44,16 +45,6 @@ pub leaves_append : (old xs ys us vs : List Met) → LeavesOut old xs ys → Lea
 leaves_append old xs ys us vs leaves_nothing more = more
 leaves_append old xs ys us vs (leaves_in m xs1 ys1 leaves) more = leaves_in m (xs1 ++ us) (ys1 ++ vs) (leaves_append old xs1 ys1 us vs leaves more)
 leaves_append old xs ys us vs (leaves_out m xs1 ys1 at leaves) more = leaves_out m (xs1 ++ us) (ys1 ++ vs) at (leaves_append old xs1 ys1 us vs leaves more)
-
--- with what one more meets
-pub leaves_push : {X Y : Type 0} (f : Y → List Met) (g : X → Y) (old met now more : List Met) (xs : List X) (i : ℕ) (x : X) → now ≡ met ++ more →
-    LeavesOut old met (flat_map f (map g (take i xs))) → LeavesOut old more (f (g x)) → i < length xs → x ≡ get_or xs i x → LeavesOut old now (flat_map f (map g (take (i + 1) xs)))
-leaves_push f g old met now more xs i x is before last below at =
-    let front : take (i + 1) xs ≡ take i xs ++ x ∷ [] = take_more xs i x below ∙ ap (λ y. take i xs ++ y ∷ []) (sym at) in
-    let parts : flat_map f (map g (take (i + 1) xs)) ≡ flat_map f (map g (take i xs)) ++ f (g x) =
-    ap (λ some. flat_map f (map g some)) front ∙ ap (flat_map f) (map-append g (take i xs) (x ∷ [])) ∙ flat_map-append f (map g (take i xs)) (g x ∷ [])
-    ∙ ap (λ back. flat_map f (map g (take i xs)) ++ back) (append-nil (f (g x))) in
-    subst₂ (LeavesOut old) (sym is) (sym parts) (leaves_append old met (flat_map f (map g (take i xs))) more (f (g x)) before last)
 
 pub in_left : (m : Met) (xs ys : List Met) → IsIn m xs → IsIn m (xs ++ ys)
 in_left m [] ys at = absurd at
@@ -96,7 +87,7 @@ module _ (facts : Facts) (place ended : JobPlace) (below : EndedBelow facts plac
 
   module _ (going : Going) (gone : HasGone facts place inputs steps ended old going) (outputs : List (Name × WorkflowOutput)) where
     abbrev env : Env
-    env = going.settled.outs
+    env = going.env
 
     -- a step whose outputs stayed and that reads none that changed is as it was
     unchanged : (s : Name × Step) → IsIn s steps → list_any (bytes_eq s.0) going.changed ≡ false → (not (reads_one going.changed s.1) || is_some (value_at s.0 env)) ≡ true
@@ -152,25 +143,32 @@ module _ (facts : Facts) (place ended : JobPlace) (below : EndedBelow facts plac
 
 -- ---- the first steps
 
+pub not_so : false ≡ true → ⊥
+not_so is = cc
+
 module _ (facts : Facts) (place ended : JobPlace) (below : EndedBelow facts place ended) (inputs : Fields) (steps : List (Name × Step))
     (apart : differ (keys_of steps) ≡ true) (inside : list_all (λ s. step_ids_differ s.1) steps ≡ true) (old : Env) (was : IsSettled (facts_before facts) place inputs steps old) where
   -- where no step that was walked is above the place
-  pub gone_none : (going : Going) → going.settled.outs ≡ old → going.settled.met.items ≡ replicate (length steps) None → going.changed ≡ [] → HasAbove ended old steps []
+  pub gone_none : (going : Going) → going.env ≡ old → IsEmpty going.met → going.changed ≡ [] → HasAbove ended old steps []
       → HasGone facts place inputs steps ended old going
   gone_none going outs met changed none = record {
     goes = record {
-      holds = subst₂ (Holds facts place inputs steps) (sym outs) (sym met)
-          (record { keeps = keeps_still facts place ended below inputs steps apart inside old was none; met = none_meet facts place inputs steps old steps });
+      holds = subst (λ (env : Env). HoldsAt facts place inputs steps env going.met) (sym outs)
+          (record {
+            keeps = keeps_still facts place ended below inputs steps apart inside old was none;
+            met = λ n s within at. subst (MeetsBy facts place inputs old s) (sym (nothing_at going.met met n)) tt;
+            within = λ n some. absurd (not_so (sym (ap is_some (nothing_at going.met met n)) ∙ some));
+          });
       grown = subst (EnvGrows old) (sym outs) (λ step name. stays_itself _);
       same = λ id is. ap (value_at id) outs;
-      slots = subst₂ (λ (ids : List Name) (slots : List (Option (List KeptMet))). AreKept ids steps slots) (sym changed) (sym met) (none_kept steps);
+      slots = subst (λ (ids : List Name). AreKept ids steps going.met) (sym changed) (nothing_kept steps going.met met);
     };
     above = subst (HasAbove ended old steps) (sym changed) none;
     stuck = ap (λ (env : Env). list_all (is_stuck env) steps) outs ∙ was.stuck;
   }
 
   module _ (n : ℕ) (k : Name × Step) (inside_n : n < length steps) (here_is : k ≡ get_or steps n k) (through : goes_through ended k.0 ≡ true) (walked : is_some (value_at k.0 old) ≡ true)
-      (first next : Going) (outs : first.settled.outs ≡ old) (met : first.settled.met.items ≡ replicate (length steps) None) (changed : first.changed ≡ []) (pending : first.pending ≡ [])
+      (first next : Going) (outs : first.env ≡ old) (met : IsEmpty first.met) (changed : first.changed ≡ []) (pending : first.pending ≡ [])
       (one : WalksOne facts place inputs k n first next) where
     abbrev at_k : IsIn k steps
     at_k = is_element steps n k inside_n here_is
@@ -185,11 +183,8 @@ module _ (facts : Facts) (place ended : JobPlace) (below : EndedBelow facts plac
     abbrev new : Outs
     new = (walk_at facts place inputs old k).outs
 
-    env_is : next.settled.outs ≡ with_value k.0 new old
+    env_is : next.env ≡ with_value k.0 new old
     env_is = one.env ∙ ap (λ (env : Env). with_value k.0 (walk_at facts place inputs env k).outs env) outs
-
-    met_is : next.settled.met.items ≡ set (replicate (length steps) None) n (Some one.met)
-    met_is = one.kept ∙ ap (λ (slots : List (Option (List KeptMet))). set slots n (Some one.met)) met
 
     changed_is : next.changed ≡ k.0 ∷ []
     changed_is = one.changed ∙ ap (λ (ids : List Name). ids ++ k.0 ∷ []) changed
@@ -204,16 +199,20 @@ module _ (facts : Facts) (place ended : JobPlace) (below : EndedBelow facts plac
 
     pub goes_first : Goes facts place inputs steps old next
     goes_first = record {
-      holds = subst₂ (Holds facts place inputs steps) (sym env_is) (sym met_is)
+      holds = subst (λ (env : Env). HoldsAt facts place inputs steps env next.met) (sym env_is)
           (record {
             keeps = keeps_k facts place ended below inputs steps apart inside old was k at_k through found.0 found.1;
-            met = all_set facts place inputs steps (with_value k.0 new old) steps (replicate (length steps) None) n k (Some one.met) inside_n here_is
-                (ready_k facts place ended below inputs steps apart inside old was k at_k through found.0 found.1, meets_k) (none_meet facts place inputs steps (with_value k.0 new old) steps);
+            met = λ m s within at.
+                put_each first.met next.met n one.met one.kept (λ (i : ℕ) (slot : Option (List KeptMet)). (u : Name × Step) → u ≡ get_or steps i u → MeetsBy facts place inputs (with_value k.0 new old) u slot)
+                (λ u there. subst (λ (v : Name × Step). MeetsBy facts place inputs (with_value k.0 new old) v (Some one.met)) (same_at steps n k u inside_n here_is there)
+                (ready_k facts place ended below inputs steps apart inside old was k at_k through found.0 found.1, meets_k))
+                m (λ other u there. subst (MeetsBy facts place inputs (with_value k.0 new old) u) (sym (nothing_at first.met met m)) tt) s at;
+            within = λ m. put_each first.met next.met n one.met one.kept (λ (i : ℕ) (slot : Option (List KeptMet)). is_some slot ≡ true → i < length steps) (λ some. inside_n)
+                m (λ other some. absurd (not_so (sym (ap is_some (nothing_at first.met met m)) ∙ some)));
           });
       grown = subst (EnvGrows old) (sym env_is) (grown_k facts place ended below inputs steps apart inside old was k at_k through found.0 found.1);
       same = λ id none. ap (value_at id) env_is ∙ same_but_one k.0 new old id (sym (ap (list_any (bytes_eq id)) changed_is) ∙ none);
-      slots = subst₂ (λ (ids : List Name) (slots : List (Option (List KeptMet))). AreKept ids steps slots) (sym changed_is) (sym met_is)
-          (kept_set [] one.met steps (replicate (length steps) None) n k apart inside_n here_is (none_kept steps));
+      slots = subst (λ (ids : List Name). AreKept ids steps next.met) (sym changed_is) (kept_put [] steps apart first.met next.met n k one.met one.kept inside_n here_is (nothing_kept steps first.met met));
     }
 
     pub above_first : HasAbove ended old steps next.changed
@@ -223,7 +222,7 @@ module _ (facts : Facts) (place ended : JobPlace) (below : EndedBelow facts plac
         by s [] one other = absurd cc
         by s (g ∷ rest) one other = (bytes_eq-Decides s.0 k.0).1 (sym ((bytes_eq-Decides g.step s.0).0 other) ∙ (bytes_eq-Decides g.step k.0).0 one)
 
-    pub looked_first : AreLookedAt next.settled.outs next.pending steps
+    pub looked_first : AreLookedAt next.env next.pending steps
     looked_first = λ s among. subst₂ (λ (env : Env) (ids : List Name). (is_stuck env s ≡ true) ⊎ (reads_one ids s.1 ≡ true)) (sym env_is) (sym pending_is) (by s among (reads k.0 s.1) refl)
       where
         by : (s : Name × Step) → IsIn s steps → (b : Bool) → reads k.0 s.1 ≡ b → (is_stuck (with_value k.0 new old) s ≡ true) ⊎ ((reads k.0 s.1 || false) ≡ true)
@@ -237,11 +236,17 @@ pub looked_next : (now : Env) (steps : List (Name × Step)) (pending rest : List
 looked_next now steps pending rest id is looked = λ s among.
     ⊎_elim (λ stuck. inl stuck) (λ some. inr (any_turned (λ (id : Name). reads id s.1) rest id (sym (ap (λ (ids : List Name). reads_one ids s.1) is) ∙ some))) (looked s among)
 
+-- those that read it are under its id
+pub looked_by : (now : Env) (steps : List (Name × Step)) (readers : Readers) → IsTableOf readers steps → (rest : List Name) (id : Name) → AreLookedAt now (id ∷ rest) steps → AreLookedAtBut (row_of id readers.rows) now rest steps
+looked_by now steps readers table rest id looked = λ n s within at. ⊎_elim (λ stuck. inl stuck) (λ some. by n s within at (reads id s.1) refl some) (looked s (is_element steps n s within at))
+  where
+    by : (n : ℕ) (s : Name × Step) → n < length steps → s ≡ get_or steps n s → (b : Bool) → reads id s.1 ≡ b → (reads id s.1 || reads_one rest s.1) ≡ true
+        → (is_stuck now s ≡ true) ⊎ ((reads_one rest s.1 ≡ true) ⊎ (stands_in n (row_of id readers.rows) ≡ true))
+    by n s within at true is some = inr (inr (table.whole id n s within at is))
+    by n s within at false is some = inr (inl (sym (ap (λ (b : Bool). b || reads_one rest s.1) is) ∙ some))
+
 pub all_stuck : (env : Env) (steps : List (Name × Step)) → AreLookedAt env [] steps → list_all (is_stuck env) steps ≡ true
 all_stuck env steps looked = all_true (is_stuck env) steps (λ s among. ⊎_elim (λ stuck. stuck) (λ none. absurd (not_so none)) (looked s among))
-  where
-    not_so : false ≡ true → ⊥
-    not_so is = cc
 
 -- what was changed is among what is changed
 pub above_on : (facts : Facts) (place : JobPlace) (inputs : Fields) (steps : List (Name × Step)) (ended : JobPlace) (old : Env) (going later : Going)

@@ -24,11 +24,13 @@ use Rattle.job_graph.specs.declared.nested.Deeper.{Deeper}
 use Rattle.job_graph.specs.declared.nested.Found.{Found}
 use Rattle.job_graph.specs.declared.nested.Inner.{Inner}
 use Rattle.job_graph.specs.declared.nested.Nested.{Nested}
+use Rattle.job_graph.specs.declared.readers.Readers.{Readers}
 use Rattle.job_graph.specs.declared.walk.Walk.{Walk as KeptWalk}
 use Rattle.job_graph.specs.declared.workflow.Walked.{Walked}
 use Rattle.job_graph.specs.inner.Going.{EndedBelow, IsAbove, LeavesOut, facts_before, goes_through}
 use Rattle.job_graph.specs.inner.Levels.{steps_of, steps_walk}
 use Rattle.job_graph.specs.inner.Nested.{BeginsAs, GoesDeeper, GoesOnIn, HasBegun, HasInner, IsFound, KeepsAlong, NestedMeet, SettledIn, inner_walk}
+use Rattle.job_graph.specs.inner.Readers.{IsTableOf}
 use Rattle.job_graph.specs.inner.Rounds.{IsSettled}
 use Rattle.job_graph.specs.inner.Views.{met_of, walk_of}
 use Rattle.job_graph.proofs.Nesting.{below_step, nested_meet, one_fewer}
@@ -42,12 +44,12 @@ pub record IsStepAbove (ended : JobPlace) (env : Env) (steps : List (Name × Ste
   pub through : goes_through ended k.0 ≡ true
   pub walked : is_some (value_at k.0 env) ≡ true
 
-pub step_is_above : (ended : JobPlace) (env : Env) (entries steps : List (Name × Step)) → entries ≡ steps → (found : Option ℕ) → IsAbove ended env entries found
-    → (n : ℕ) → found ≡ Some n → (k : Name × Step) → k ≡ get_or entries n k → IsStepAbove ended env steps n k
-step_is_above ended env entries steps same found above n is k at =
-    let some : IsAbove ended env entries (Some n) = subst (IsAbove ended env entries) is above in
-    subst (λ (these : List (Name × Step)). IsStepAbove ended env these n k) same
-    (record { within = some.0; is = at; through = (some.1 k at).0; walked = (some.1 k at).1 })
+pub step_is_above : (ended : JobPlace) (env : Env) (steps : List (Name × Step)) (found : Option ℕ) → IsAbove ended env steps found
+    → (n : ℕ) → found ≡ Some n → (entries : List (Name × Step)) → entries ≡ steps → (k : Name × Step) → k ≡ get_or entries n k → IsStepAbove ended env steps n k
+step_is_above ended env steps found above n is entries same k at =
+    let some : IsAbove ended env steps (Some n) = subst (IsAbove ended env steps) is above in
+    let here : k ≡ get_or steps n k = at ∙ ap (λ (these : List (Name × Step)). get_or these n k) same in
+    record { within = some.0; is = here; through = (some.1 k here).0; walked = (some.1 k here).1 }
 
 -- the place below it
 pub ended_step : (facts : Facts) (place ended : JobPlace) → EndedBelow facts place ended → (g : Segment) → 0 < length ended → g ≡ get_or ended 0 g → (rest : JobPlace) → rest ≡ drop 1 ended
@@ -84,17 +86,19 @@ form_is p w is = ap out-Process is ∙ ap out-Process (sym (rolls-Workflow w)) �
 -- what is kept of it, at its place
 pub settled_at : (facts : Facts) (own here : JobPlace) → own ≡ here → (p : Process) (w : Workflow) → p ≡ process.Workflow w → (one : Nested) (deeper : List Nested)
     → SettledIn facts here (out-Process p) one deeper → IsSettled facts own one.inputs (out-Workflow w).steps one.env × KeepsAlong facts own one.inputs (out-Workflow w).steps one.env deeper
+    × IsTableOf one.readers (out-Workflow w).steps
 settled_at facts own here same p w is one deeper settled =
-    subst (λ (place : JobPlace). IsSettled facts place one.inputs (out-Workflow w).steps one.env × KeepsAlong facts place one.inputs (out-Workflow w).steps one.env deeper) (sym same)
+    subst (λ (place : JobPlace). IsSettled facts place one.inputs (out-Workflow w).steps one.env × KeepsAlong facts place one.inputs (out-Workflow w).steps one.env deeper
+    × IsTableOf one.readers (out-Workflow w).steps) (sym same)
     (subst (λ (form : Process-F Process Step Workflow). SettledIn facts here form one deeper) (form_is p w is) settled)
 
-abbrev kept_as : ℕ → List ℕ → Fields → Env → Nested
-kept_as number tuple inputs env = record { number = number; tuple = tuple; inputs = inputs; env = env }
+abbrev kept_as : ℕ → List ℕ → Fields → Readers → Env → Nested
+kept_as number tuple inputs readers env = record { number = number; tuple = tuple; inputs = inputs; readers = readers; env = env }
 
 -- it went on
 pub gone_where : (facts : Facts) (own : JobPlace) (w : Workflow) (one : Nested) (deeper : Deeper) → GoesDeeper facts own one.inputs (out-Workflow w).outputs (out-Workflow w).steps deeper
     → (inner : Inner) → inner.walk ≡ deeper.walk
-    → reverse inner.nested ≡ record { number = one.number; tuple = one.tuple; inputs = one.inputs; env = deeper.env } ∷ reverse deeper.nested
+    → reverse inner.nested ≡ record { number = one.number; tuple = one.tuple; inputs = one.inputs; readers = one.readers; env = deeper.env } ∷ reverse deeper.nested
     → GoesOnIn facts own (Process-F.Workflow w) one inner
 gone_where facts own w one deeper goes inner walk is = record {
   env = deeper.env;
@@ -112,20 +116,22 @@ gone_where facts own w one deeper goes inner walk is = record {
 -- it began
 pub begun_where : (facts : Facts) (own : JobPlace) (w : Workflow) (given inputs : Fields) → workflow_inputs_for facts.measures (out-Workflow w).inputs given ≡ Ok inputs
     → (walk : KeptWalk) → walk_of walk ≡ inner_walk w own inputs facts → (env : Env) → IsSettled facts own inputs (out-Workflow w).steps env
-    → (number : ℕ) (tuple : List ℕ) (inner : Inner) → inner.walk ≡ walk → reverse inner.nested ≡ record { number = number; tuple = tuple; inputs = inputs; env = env } ∷ []
+    → (readers : Readers) → IsTableOf readers (out-Workflow w).steps
+    → (number : ℕ) (tuple : List ℕ) (inner : Inner) → inner.walk ≡ walk → reverse inner.nested ≡ record { number = number; tuple = tuple; inputs = inputs; readers = readers; env = env } ∷ []
     → HasBegun facts own (Process-F.Workflow w) given number tuple inner
-begun_where facts own w given inputs hands walk whole env settled number tuple inner same is = record {
+begun_where facts own w given inputs hands walk whole env settled readers table number tuple inner same is = record {
   inputs = inputs;
+  readers = readers;
   env = env;
   is = is;
-  begun = record { hands = hands; whole = ap walk_of same ∙ whole; settled = settled };
+  begun = record { hands = hands; whole = ap walk_of same ∙ whole; settled = settled; table = table };
 }
 
 -- ---- the same by the code's own words
 
 pub went_on : (facts : Facts) (own here : JobPlace) → own ≡ here → (p : Process) (w : Workflow) → p ≡ process.Workflow w
     → (outputs : List (Name × WorkflowOutput)) → outputs ≡ (out-Workflow w).outputs → (one : Nested) (deeper : Deeper) → GoesDeeper facts own one.inputs outputs (out-Workflow w).steps deeper
-    → (inner : Inner) → inner.walk ≡ deeper.walk → reverse inner.nested ≡ kept_as one.number one.tuple one.inputs deeper.env ∷ reverse deeper.nested
+    → (inner : Inner) → inner.walk ≡ deeper.walk → reverse inner.nested ≡ kept_as one.number one.tuple one.inputs one.readers deeper.env ∷ reverse deeper.nested
     → GoesOnIn facts here (out-Process p) one inner
 went_on facts own here at p w is outputs same one deeper goes inner walk nested =
     subst₂ (λ (place : JobPlace) (form : Process-F Process Step Workflow). GoesOnIn facts place form one inner) at (sym (form_is p w is))
@@ -134,12 +140,13 @@ went_on facts own here at p w is outputs same one deeper goes inner walk nested 
 pub began : (facts : Facts) (own : JobPlace) (w : Workflow) (given inputs : Fields) → workflow_inputs_for facts.measures (out-Workflow w).inputs given ≡ Ok inputs
     → (outputs : List (Name × WorkflowOutput)) → outputs ≡ (out-Workflow w).outputs → (walked : Walked) → walk_of walked.walk ≡ steps_walk outputs (steps_of facts (out-Workflow w).steps) own inputs
     → IsSettled facts own inputs (out-Workflow w).steps walked.env → (none : List Nested) → none ≡ [] → (deeper : Deeper) → deeper ≡ record { walk = walked.walk; env = walked.env; nested = none }
-    → (number : ℕ) (tuple : List ℕ) (inner : Inner) → inner.walk ≡ deeper.walk → reverse inner.nested ≡ kept_as number tuple inputs deeper.env ∷ reverse deeper.nested
+    → (readers : Readers) → IsTableOf readers (out-Workflow w).steps
+    → (number : ℕ) (tuple : List ℕ) (inner : Inner) → inner.walk ≡ deeper.walk → reverse inner.nested ≡ kept_as number tuple inputs readers deeper.env ∷ reverse deeper.nested
     → BeginsAs facts own w given number tuple inner
-began facts own w given inputs hands outputs same walked whole settled none empty deeper is number tuple inner walk nested =
+began facts own w given inputs hands outputs same walked whole settled none empty deeper is readers table number tuple inner walk nested =
     begun_where facts own w given inputs hands walked.walk (whole ∙ ap (λ (these : List (Name × WorkflowOutput)). steps_walk these (steps_of facts (out-Workflow w).steps) own inputs) same)
-    walked.env settled number tuple inner (walk ∙ ap (λ (d : Deeper). d.walk) is)
-    (nested ∙ ap (λ (d : Deeper). kept_as number tuple inputs d.env ∷ reverse d.nested) is ∙ ap (λ (these : List Nested). kept_as number tuple inputs walked.env ∷ reverse these) empty)
+    walked.env settled readers table number tuple inner (walk ∙ ap (λ (d : Deeper). d.walk) is)
+    (nested ∙ ap (λ (d : Deeper). kept_as number tuple inputs readers d.env ∷ reverse d.nested) is ∙ ap (λ (these : List Nested). kept_as number tuple inputs readers walked.env ∷ reverse these) empty)
 
 -- ---- what is found
 

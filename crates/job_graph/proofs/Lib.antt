@@ -8,6 +8,7 @@ mod GoingOn
 mod Gone
 mod Grows
 mod Handing
+mod Hearing
 mod Index
 mod Inward
 pub mod Knowing
@@ -26,6 +27,7 @@ mod Once
 mod Outs
 mod Vertices
 mod Quotients
+mod Reading
 mod RootBegun
 mod RootWalk
 mod Rooted

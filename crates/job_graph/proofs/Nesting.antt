@@ -31,10 +31,11 @@ use Rattle.job_graph.specs.inner.Going.{EndedBelow, LeavesOut, leaves_nothing, l
 use Rattle.job_graph.specs.inner.Levels.{step_of, steps_of}
 use Rattle.job_graph.specs.inner.Nested.{GoesOnIn, Hands, HandsBy, HasBegun, HasGone, HasInner, IsBegun, IsFound, IsInner, IsInside, KeepsAlong, KeepsOne, MayKeep, NestedMeet, OfWorkflow, SettledIn, facts_with, inner_walk}
 use Rattle.job_graph.specs.inner.OneTuple.{GoesAt, HasAll, HoldsBack, StaysBy, StaysWith, StepMeets, StepsMeet, count_known, lacks, mets_for, one_if, times, walk_for}
+use Rattle.job_graph.specs.inner.Readers.{IsTableOf}
 use Rattle.job_graph.specs.inner.Rounds.{EnvGrows, IsSettled, StandsBy, is_ready, walk_at}
 use Rattle.job_graph.specs.inner.Views.{made_from, met_of}
 use Rattle.job_graph.proofs.Gone.{in_one, leaves_append, leaves_itself}
-use Rattle.job_graph.proofs.GoingOn.{turned}
+use Rattle.job_graph.proofs.GoingOn.{same_at, turned}
 use Rattle.job_graph.proofs.Loops.{steps_length}
 use Rattle.job_graph.proofs.OneTuple.{once_meets, outs_stay, step_past, walk_is}
 use Rattle.job_graph.proofs.RootWalk.{of_root, of_workflow}
@@ -206,7 +207,7 @@ module _ (facts : Facts) (place : JobPlace) (inputs : Fields) (env : Env) (s : N
       → StepMeets facts place inputs env s (map met_of inner.walk.met)
   step_meets stands stays = by (out-Process (out-Step s.1).process) has.holds
     where
-      by : (p : Process-F Process Step Workflow) → OfWorkflow (λ w. IsInner facts place inputs env s w tuple has.own has.own_env has.deeper inner.walk) p
+      by : (p : Process-F Process Step Workflow) → OfWorkflow (λ w. IsInner facts place inputs env s w tuple has.own has.readers has.own_env has.deeper inner.walk) p
           → StepMeets facts place inputs env s (map met_of inner.walk.met)
       by (Process-F.Tool tool) holds = absurd holds
       by (Process-F.Workflow w) holds = record {
@@ -268,11 +269,6 @@ goes_past (g ∷ rest) k s through apart = ap (λ (id : Name). bytes_eq id s) ((
 
 -- ---- what is kept of a step
 
-same_at : (steps : List (Name × Step)) (n : ℕ) (s t : Name × Step) → n < length steps → s ≡ get_or steps n s → t ≡ get_or steps n t → s ≡ t
-same_at [] n s t below one other = absurd (omega (arith, below))
-same_at (u ∷ us) zero s t below one other = one ∙ sym other
-same_at (u ∷ us) (suc n) s t below one other = let less : n < length us = omega (arith, below) in same_at us n s t less one other
-
 -- where more outputs of steps are known
 module _ (facts : Facts) (place : JobPlace) (inputs : Fields) (env later : Env) (grown : EnvGrows env later) (s : Name × Step) (ready : is_ready env s.1 ≡ true) where
   walk_later : (learned : List KeptResolved) → walk_at (facts_with facts learned) place inputs later s ≡ walk_at (facts_with facts learned) place inputs env s
@@ -293,7 +289,7 @@ module _ (facts : Facts) (place : JobPlace) (inputs : Fields) (steps : List (Nam
   -- inside it
   module _ (tuple : List ℕ) (inner : Inner) (has : HasInner facts place inputs env k n tuple inner) (later : Env) where
     abbrev this : Nested
-    this = record { number = n; tuple = tuple; inputs = has.own; env = has.own_env }
+    this = record { number = n; tuple = tuple; inputs = has.own; readers = has.readers; env = has.own_env }
 
     abbrev KeepsThis : Name × Step → Workflow → Type 0
     KeepsThis s w = KeepsOne facts place inputs later s w this (KeepsAlong facts (step_place place s.0 tuple) has.own (out-Workflow w).steps has.own_env has.deeper)
@@ -302,10 +298,11 @@ module _ (facts : Facts) (place : JobPlace) (inputs : Fields) (steps : List (Nam
     kept_inner ready grown =
         subst (KeepsAlong facts place inputs steps later) (sym has.is)
         (λ s within here. subst (λ (t : Name × Step). OfWorkflow (KeepsThis t) (out-Process (out-Step t.1).process)) (same_at steps n k s below is here)
-        (also_of (λ w. IsInner facts place inputs env k w tuple has.own has.own_env has.deeper inner.walk) (KeepsThis k)
+        (also_of (λ w. IsInner facts place inputs env k w tuple has.own has.readers has.own_env has.deeper inner.walk) (KeepsThis k)
         (λ w holds. record {
           inside = inside_later facts place inputs env later grown k ready w tuple has.own (out-Step k.1).scatter holds.inside;
           settled = holds.settled;
+          table = holds.table;
           along = holds.along;
         }) (out-Process (out-Step k.1).process) has.holds))
 
@@ -333,20 +330,21 @@ module _ (facts : Facts) (place : JobPlace) (inputs : Fields) (env : Env) (s : N
     pub settled_in : OfWorkflow Kept form → SettledIn (facts_before facts) (step_place place s.0 one.tuple) form one deeper
     settled_in =
         also_of Kept (λ w. IsSettled (facts_before facts) (step_place place s.0 one.tuple) one.inputs (out-Workflow w).steps one.env
-        × KeepsAlong (facts_before facts) (step_place place s.0 one.tuple) one.inputs (out-Workflow w).steps one.env deeper)
-        (λ w keeps. (keeps.settled, keeps.along)) form
+        × KeepsAlong (facts_before facts) (step_place place s.0 one.tuple) one.inputs (out-Workflow w).steps one.env deeper × IsTableOf one.readers (out-Workflow w).steps)
+        (λ w keeps. (keeps.settled, keeps.along, keeps.table)) form
 
     pub gone_inner : (number : ℕ) (tuple : List ℕ) (inner : Inner) → one.number ≡ number → one.tuple ≡ tuple → OfWorkflow Kept form
         → GoesOnIn facts (step_place place s.0 one.tuple) form one inner → HasInner facts place inputs env s number tuple inner
     gone_inner number tuple inner numbered at keeps goes =
         subst₂ (λ (n : ℕ) (t : List ℕ). HasInner facts place inputs env s n t inner) numbered at (record {
           own = one.inputs;
+          readers = one.readers;
           own_env = goes.env;
           deeper = goes.deeper;
           is = goes.is;
           holds = both_of Kept (λ w. HasGone facts (step_place place s.0 one.tuple) w one goes.env goes.deeper inner.walk)
-              (λ w. IsInner facts place inputs env s w one.tuple one.inputs goes.env goes.deeper inner.walk)
-              (λ w keeps gone. record { inside = inside_now w one.tuple one.inputs (out-Step s.1).scatter keeps.inside; outs = gone.outs; leaves = gone.leaves; settled = gone.settled; along = gone.along }) form keeps goes.gone;
+              (λ w. IsInner facts place inputs env s w one.tuple one.inputs one.readers goes.env goes.deeper inner.walk)
+              (λ w keeps gone. record { inside = inside_now w one.tuple one.inputs (out-Step s.1).scatter keeps.inside; outs = gone.outs; leaves = gone.leaves; settled = gone.settled; table = keeps.table; along = gone.along }) form keeps goes.gone;
         })
 
   -- where it begins
@@ -388,8 +386,8 @@ module _ (facts : Facts) (place : JobPlace) (inputs : Fields) (env : Env) (s : N
       }
 
     module _ (number : ℕ) (inner : Inner) (begins : HasBegun facts (step_place place s.0 tuple) form given number tuple inner) where
-      holds_by : (p : Process-F Process Step Workflow) → form ≡ p → OfWorkflow (λ w. IsBegun facts (step_place place s.0 tuple) w given begins.inputs begins.env inner.walk) p
-          → OfWorkflow (λ w. IsInner facts place inputs env s w tuple begins.inputs begins.env [] inner.walk) p
+      holds_by : (p : Process-F Process Step Workflow) → form ≡ p → OfWorkflow (λ w. IsBegun facts (step_place place s.0 tuple) w given begins.inputs begins.readers begins.env inner.walk) p
+          → OfWorkflow (λ w. IsInner facts place inputs env s w tuple begins.inputs begins.readers begins.env [] inner.walk) p
       holds_by (Process-F.Tool tool) is begun = absurd begun
       holds_by (Process-F.Workflow w) is begun = record {
         inside = inside_by w is begins.inputs begun.hands (out-Step s.1).scatter refl hands.by;
@@ -397,11 +395,12 @@ module _ (facts : Facts) (place : JobPlace) (inputs : Fields) (env : Env) (s : N
         leaves = subst (λ (walk : Walk). LeavesOut (inner_walk w (step_place place s.0 tuple) begins.inputs (facts_before facts)).met (map met_of inner.walk.met) walk.met) begun.whole
             (leaves_itself (inner_walk w (step_place place s.0 tuple) begins.inputs (facts_before facts)).met (map met_of inner.walk.met));
         settled = begun.settled;
+        table = begun.table;
         along = tt;
       }
 
       pub begun_inner : HasInner facts place inputs env s number tuple inner
-      begun_inner = record { own = begins.inputs; own_env = begins.env; deeper = []; is = begins.is; holds = holds_by form refl begins.begun }
+      begun_inner = record { own = begins.inputs; readers = begins.readers; own_env = begins.env; deeper = []; is = begins.is; holds = holds_by form refl begins.begun }
 
 -- ---- what all steps meet, where the place goes through one that has an inner walk
 

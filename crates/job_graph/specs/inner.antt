@@ -13,6 +13,7 @@ pub mod Needed
 pub mod Nested
 pub mod OneTuple
 pub mod Outputs
+pub mod Readers
 pub mod Rounds
 pub mod Told
 pub mod Views

@@ -10,6 +10,7 @@ use crate::inputs::workflow_inputs;
 use crate::links::Env;
 use crate::made::Facts;
 use crate::nested::{Deeper, Nested, walk_deeper, with_nested};
+use crate::readers::Readers;
 use crate::walk::{Walk, failed_process, walk_tool};
 use crate::workflow::walk_keeping;
 use cwl_value::{Segment, Value};
@@ -21,6 +22,7 @@ use std::alloc::{AllocError, Global};
 #[derive(Drop)]
 pub(crate) struct Kept {
     pub inputs: Keyed<Value>,
+    pub readers: Readers,
     pub env: Env,
     /// What is kept along the place that was learned last, the outermost last.
     pub nested: Items<Nested>,
@@ -80,8 +82,10 @@ fn walk_whole<'a>(
         Ok(inputs) => {
             let outputs = workflow.outputs.as_slice();
             let walked = walk_keeping(alloc, facts, &workflow.steps, outputs, &root, &inputs)?;
+            let readers = Readers::of(alloc, &workflow.steps)?;
             Ok(with_kept(
                 inputs,
+                readers,
                 with_nested(walked, Items::new(alloc)),
                 facts.learned.len(),
             ))
@@ -121,6 +125,7 @@ fn go_on<'a>(
     let root = Items::new(alloc);
     let Kept {
         inputs,
+        readers,
         env,
         nested,
         since,
@@ -130,9 +135,9 @@ fn go_on<'a>(
     let outputs = workflow.outputs.as_slice();
     let ended: &[Segment] = last.at.place.as_slice();
     let deeper = walk_deeper(
-        alloc, facts, steps, outputs, &root, &inputs, env, nested, ended,
+        alloc, facts, steps, &readers, outputs, &root, &inputs, env, nested, ended,
     )?;
-    Ok(with_kept(inputs, deeper, facts.learned.len()))
+    Ok(with_kept(inputs, readers, deeper, facts.learned.len()))
 }
 
 /// What is kept inside, where one place alone was learned since.
@@ -146,10 +151,16 @@ fn where_new(alloc: Global, nested: Items<Nested>, since: usize, learned: usize)
     Items::new(alloc)
 }
 
-fn with_kept<'a>(inputs: Keyed<Value>, deeper: Deeper<'a>, since: usize) -> Rooted<'a>
+fn with_kept<'a>(
+    inputs: Keyed<Value>,
+    readers: Readers,
+    deeper: Deeper<'a>,
+    since: usize,
+) -> Rooted<'a>
     ensures walk { result.walk ≡ deeper.entry.walk }
     ensures kept { result.kept ≡ Some (record {
       inputs = inputs;
+      readers = readers;
       env = deeper.entry.env;
       nested = deeper.entry.nested;
       since = since;
@@ -160,6 +171,7 @@ fn with_kept<'a>(inputs: Keyed<Value>, deeper: Deeper<'a>, since: usize) -> Root
         walk,
         kept: Some(Kept {
             inputs,
+            readers,
             env,
             nested,
             since,

@@ -36,6 +36,7 @@ mod paths;
 mod place;
 mod present;
 mod progress;
+mod readers;
 mod rounds;
 mod scatter;
 mod sought;

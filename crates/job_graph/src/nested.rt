@@ -7,6 +7,7 @@ ghost use Rattle.job_graph.specs.Apart.{ids_differ, step_ids_differ};
 ghost use Rattle.job_graph.specs.Equations.{step_place};
 ghost use Rattle.job_graph.specs.inner.Going.{EndedBelow, facts_before};
 ghost use Rattle.job_graph.specs.inner.Nested.{BeginsAs, GoesDeeper, GoesOnIn, HasBegun, HasInner, IsFound, KeepsAlong, MayKeep, NestedMeet, SettledIn};
+ghost use Rattle.job_graph.specs.inner.Readers.{IsTableOf};
 ghost use Rattle.job_graph.specs.inner.Rounds.{IsSettled};
 
 use crate::handed::handed;
@@ -15,6 +16,7 @@ use crate::inputs::workflow_inputs;
 use crate::links::Env;
 use crate::made::Facts;
 use crate::place::{after_first, step_place};
+use crate::readers::Readers;
 use crate::waiting::{step_above, walk_on};
 use crate::walk::Walk;
 use crate::workflow::{Walked, walk_keeping, with_outputs};
@@ -31,8 +33,9 @@ pub(crate) struct Nested {
     pub number: usize,
     /// The tuple; empty where the step is not scattered.
     pub tuple: Items<usize>,
-    /// The inputs of the inner workflow, and the outputs of those of its steps that were walked.
+    /// The inputs of the inner workflow, the readers of each of its steps, and the outputs of those that were walked.
     pub inputs: Keyed<Value>,
+    pub readers: Readers,
     pub env: Env,
 }
 
@@ -65,6 +68,7 @@ pub(crate) fn walk_deeper<'a>(
     alloc: Global,
     facts: &Facts,
     steps: &'a Entries<Step>,
+    readers: &Readers,
     outputs: &[(Text, WorkflowOutput)],
     place: &JobPlace,
     inputs: &Keyed<Value>,
@@ -75,13 +79,16 @@ pub(crate) fn walk_deeper<'a>(
     requires before { IsSettled (facts_before facts.now) place.now inputs.now steps.now env }
     requires along { KeepsAlong (facts_before facts.now) place.now inputs.now steps.now env
         (reverse nested) }
+    requires table { IsTableOf readers.now steps.now }
     requires ended { EndedBelow facts.now place.now ended.now }
     requires apart { list_all (λ s. step_ids_differ s.1) steps.now ≡ true }
     ensures { IfOk result (GoesDeeper facts.now place.now inputs.now outputs.now steps.now) }
 {
-    let found = met_deeper(alloc, facts, steps, place, inputs, &env, nested, ended)?;
+    let found = met_deeper(
+        alloc, facts, steps, readers, place, inputs, &env, nested, ended,
+    )?;
     walk_by(
-        alloc, facts, steps, outputs, place, inputs, env, found, ended,
+        alloc, facts, steps, readers, outputs, place, inputs, env, found, ended,
     )
 }
 
@@ -90,6 +97,7 @@ fn walk_by<'a>(
     alloc: Global,
     facts: &Facts,
     steps: &'a Entries<Step>,
+    readers: &Readers,
     outputs: &[(Text, WorkflowOutput)],
     place: &JobPlace,
     inputs: &Keyed<Value>,
@@ -99,17 +107,20 @@ fn walk_by<'a>(
 ) -> Result<Deeper<'a>, AllocError>
     requires before { IsSettled (facts_before facts.now) place.now inputs.now steps.now env }
     requires found { IfSome found (NestedMeet facts.now place.now inputs.now steps.now env) }
+    requires table { IsTableOf readers.now steps.now }
     requires ended { EndedBelow facts.now place.now ended.now }
     requires apart { list_all (λ s. step_ids_differ s.1) steps.now ≡ true }
     ensures { IfOk result (GoesDeeper facts.now place.now inputs.now outputs.now steps.now) }
 {
     match found {
         None => {
-            let walked = walk_on(alloc, facts, steps, outputs, place, inputs, env, ended)?;
+            let walked = walk_on(
+                alloc, facts, steps, readers, outputs, place, inputs, env, ended,
+            )?;
             Ok(with_nested(walked, Items::new(alloc)))
         }
         Some(found) => walk_found(
-            alloc, facts, steps, outputs, place, inputs, env, found, ended,
+            alloc, facts, steps, readers, outputs, place, inputs, env, found, ended,
         ),
     }
 }
@@ -118,6 +129,7 @@ fn walk_found<'a>(
     alloc: Global,
     facts: &Facts,
     steps: &'a Entries<Step>,
+    readers: &Readers,
     outputs: &[(Text, WorkflowOutput)],
     place: &JobPlace,
     inputs: &Keyed<Value>,
@@ -127,6 +139,7 @@ fn walk_found<'a>(
 ) -> Result<Deeper<'a>, AllocError>
     requires before { IsSettled (facts_before facts.now) place.now inputs.now steps.now env }
     requires found { NestedMeet facts.now place.now inputs.now steps.now env found }
+    requires table { IsTableOf readers.now steps.now }
     requires ended { EndedBelow facts.now place.now ended.now }
     requires apart { list_all (λ s. step_ids_differ s.1) steps.now ≡ true }
     ensures { IfOk result (GoesDeeper facts.now place.now inputs.now outputs.now steps.now) }
@@ -140,7 +153,9 @@ fn walk_found<'a>(
         return Ok(with_nested(Walked { walk, env }, nested));
     }
     drop(met);
-    let walked = walk_on(alloc, facts, steps, outputs, place, inputs, env, ended)?;
+    let walked = walk_on(
+        alloc, facts, steps, readers, outputs, place, inputs, env, ended,
+    )?;
     Ok(with_nested(walked, nested))
 }
 
@@ -162,6 +177,7 @@ fn met_deeper<'a>(
     alloc: Global,
     facts: &Facts,
     steps: &'a Entries<Step>,
+    readers: &Readers,
     place: &JobPlace,
     inputs: &Keyed<Value>,
     env: &Env,
@@ -171,6 +187,7 @@ fn met_deeper<'a>(
     requires before { IsSettled (facts_before facts.now) place.now inputs.now steps.now env.now }
     requires along { KeepsAlong (facts_before facts.now) place.now inputs.now steps.now env.now
         (reverse nested) }
+    requires table { IsTableOf readers.now steps.now }
     requires ended { EndedBelow facts.now place.now ended.now }
     requires apart { list_all (λ s. step_ids_differ s.1) steps.now ≡ true }
     ensures { IfOk result (λ found. IfSome found
@@ -181,7 +198,7 @@ fn met_deeper<'a>(
         return Ok(None);
     }
     let entries = steps.as_slice();
-    let Some(number) = step_above(entries, env, ended) else {
+    let Some(number) = step_above(readers, env, ended) else {
         return Ok(None);
     };
     let step = &entries[number];
@@ -280,14 +297,15 @@ fn go_on<'a>(
                 number,
                 tuple,
                 inputs,
+                readers,
                 env,
             } = one;
             let steps = &workflow.steps;
             let outputs = workflow.outputs.as_slice();
             let deeper = walk_deeper(
-                alloc, facts, steps, outputs, &own, &inputs, env, nested, rest,
+                alloc, facts, steps, &readers, outputs, &own, &inputs, env, nested, rest,
             )?;
-            Ok(Some(with_inner(number, tuple, inputs, deeper)?))
+            Ok(Some(with_inner(number, tuple, inputs, readers, deeper)?))
         }
     }
 }
@@ -355,10 +373,12 @@ fn begin_workflow<'a>(
         Ok(inputs) => {
             let outputs = workflow.outputs.as_slice();
             let walked = walk_keeping(alloc, facts, &workflow.steps, outputs, own, &inputs)?;
+            let readers = Readers::of(alloc, &workflow.steps)?;
             Ok(Some(with_inner(
                 number,
                 tuple,
                 inputs,
+                readers,
                 with_nested(walked, Items::new(alloc)),
             )?))
         }
@@ -374,6 +394,7 @@ fn with_inner<'a>(
     number: usize,
     tuple: Items<usize>,
     inputs: Keyed<Value>,
+    readers: Readers,
     deeper: Deeper<'a>,
 ) -> Result<Inner<'a>, AllocError>
     ensures walk { IfOk result (λ inner. inner.walk ≡ deeper.entry.walk) }
@@ -381,6 +402,7 @@ fn with_inner<'a>(
       number = number;
       tuple = tuple;
       inputs = inputs;
+      readers = readers;
       env = deeper.entry.env;
     } ∷ reverse deeper.entry.nested) }
 {
@@ -390,6 +412,7 @@ fn with_inner<'a>(
         number,
         tuple,
         inputs,
+        readers,
         env,
     })?;
     Ok(Inner { walk, nested })

@@ -49,10 +49,7 @@ pub(crate) fn settle_steps<'a>(
 }
 
 /// A place for what each step meets, with nothing there yet.
-pub(crate) fn none_met<'a>(
-    alloc: Global,
-    count: usize,
-) -> Result<Vec<Option<Items<Met<'a>>>>, AllocError>
+fn none_met<'a>(alloc: Global, count: usize) -> Result<Vec<Option<Items<Met<'a>>>>, AllocError>
     ensures { IfOk result (λ met. met.items ≡ replicate count None) }
 {
     let mut met = Vec::with_capacity(alloc, count)?;

@@ -1,7 +1,9 @@
 -- How the steps of a workflow go on, where a job below one of them has ended.
-use Rattle.std.specs.Prelude.{◌≡◌, ◌≤◌, ◌<◌, ◌++◌, ◌+◌, ◌*◌, ◌-◌, ◌⊎◌, ◌||◌, ℕ, Bool, true, false, get_or, length, List, [], ◌∷◌, map, not, Option, Some, None, bytes_eq, is_some, set, take, unwrap_or}
+use Rattle.std.specs.Prelude.{◌≡◌, ◌≤◌, ◌<◌, ◌++◌, ◌+◌, ◌*◌, ◌-◌, ◌⊎◌, ◌||◌, ℕ, Bool, true, false, get_or, length, List, [], ◌∷◌, map, not, Option, Some, None, bytes_eq, is_some, take, unwrap_or, ◌==◌}
+use Rattle.std.specs.BTreeMap.{BTreeMap, Updates, get}
 use Rattle.std.specs.List.{list_all, list_any}
 use Rattle.std.specs.Option.{option_map_or}
+use Rattle.std.specs.Ordering.{nat_cmp}
 use Rattle.cwl_process.specs.declared.links.Source.{Source}
 use Rattle.document_links.specs.declared.process.Step.{Step, out-Step}
 use Rattle.plain_data.specs.ByName.{value_at, with_value}
@@ -13,7 +15,7 @@ use Rattle.job_graph.specs.declared.made.Facts.{Facts}
 use Rattle.job_graph.specs.declared.made.Resolved.{Resolved as KeptResolved}
 use Rattle.job_graph.specs.declared.walk.Met.{Met as KeptMet}
 use Rattle.job_graph.specs.declared.waiting.Going.{Going}
-use Rattle.job_graph.specs.inner.Rounds.{EnvGrows, Holds, count, is_stuck, walk_at}
+use Rattle.job_graph.specs.inner.Rounds.{EnvGrows, Keeps, MeetsBy, count, is_stuck, walk_at}
 use Rattle.job_graph.specs.inner.Views.{met_of}
 
 -- ---- what was known before the place that was learned last
@@ -60,15 +62,24 @@ abbrev pub IsKept : List Name → Name × Step → Option (List KeptMet) → Typ
 IsKept changed s None = list_any (bytes_eq s.0) changed ≡ false
 IsKept changed s (Some met) = Unit {0}
 
-abbrev pub AreKept : List Name → List (Name × Step) → List (Option (List KeptMet)) → Type 0
-AreKept changed [] [] = Unit {0}
-AreKept changed [] (met ∷ kept) = ⊥
-AreKept changed (s ∷ steps) [] = ⊥
-AreKept changed (s ∷ steps) (met ∷ kept) = IsKept changed s met × AreKept changed steps kept
+abbrev pub AreKept : List Name → List (Name × Step) → BTreeMap ℕ (List KeptMet) → Type 0
+AreKept changed steps met = (n : ℕ) (s : Name × Step) → n < length steps → s ≡ get_or steps n s → IsKept changed s (get nat_cmp met n)
+
+-- whether a number is one of these
+abbrev pub stands_in : ℕ → List ℕ → Bool
+stands_in m row = list_any (λ n. n == m) row
+
+abbrev pub AreNumbers : List (Name × Step) → List ℕ → Type 0
+AreNumbers steps row = (m : ℕ) → stands_in m row ≡ true → m < length steps
 
 -- each step can't be walked, or reads one whose readers are still to be looked at
 abbrev pub AreLookedAt : Env → List Name → List (Name × Step) → Type 0
 AreLookedAt env pending steps = (s : Name × Step) → IsIn s steps → (is_stuck env s ≡ true) ⊎ (reads_one pending s.1 ≡ true)
+
+-- but for those of these numbers
+abbrev pub AreLookedAtBut : List ℕ → Env → List Name → List (Name × Step) → Type 0
+AreLookedAtBut row env pending steps = (n : ℕ) (s : Name × Step) → n < length steps → s ≡ get_or steps n s
+    → (is_stuck env s ≡ true) ⊎ ((reads_one pending s.1 ≡ true) ⊎ (stands_in n row ≡ true))
 
 -- the known outputs of other steps are as they were
 abbrev pub SameBut : List Name → Env → Env → Type 0
@@ -87,48 +98,72 @@ IsAbove ended env steps (Some n) =
 
 -- how much there is still to do, at most
 abbrev pub left_to_do : List (Name × Step) → Going → ℕ
-left_to_do steps going = 2 * (length steps - count going.settled.outs steps) + length going.pending
+left_to_do steps going = 2 * (length steps - count going.env steps) + length going.pending
 
 module _ (facts : Facts) (place : JobPlace) (inputs : Fields) where
+  -- `Rounds.Holds`, where what steps met is kept by their numbers
+  pub record HoldsAt (steps : List (Name × Step)) (env : Env) (kept : BTreeMap ℕ (List KeptMet)) : Type 0 where
+    pub keeps : Keeps facts place inputs steps env
+    pub met : (n : ℕ) (s : Name × Step) → n < length steps → s ≡ get_or steps n s → MeetsBy facts place inputs env s (get nat_cmp kept n)
+    pub within : (n : ℕ) → is_some (get nat_cmp kept n) ≡ true → n < length steps
+
   -- a step was walked
   pub record WalksOne (s : Name × Step) (number : ℕ) (old new : Going) : Type 0 where
     pub met : List KeptMet
-    pub is : map met_of met ≡ (walk_at facts place inputs old.settled.outs s).met
-    pub env : new.settled.outs ≡ with_value s.0 (walk_at facts place inputs old.settled.outs s).outs old.settled.outs
-    pub kept : new.settled.met.items ≡ set old.settled.met.items number (Some met)
+    pub is : map met_of met ≡ (walk_at facts place inputs old.env s).met
+    pub env : new.env ≡ with_value s.0 (walk_at facts place inputs old.env s).outs old.env
+    pub kept : Updates nat_cmp old.met new.met number (Some met)
     pub changed : new.changed ≡ old.changed ++ s.0 ∷ []
     pub pending : new.pending ≡ old.pending ++ s.0 ∷ []
 
   module _ (steps : List (Name × Step)) where
     -- steps were walked that waited for nothing any more
     pub record WalksOn (old new : Going) : Type 0 where
-      pub holds : Holds facts place inputs steps new.settled.outs new.settled.met.items
-      pub grown : EnvGrows old.settled.outs new.settled.outs
-      pub same : SameBut new.changed old.settled.outs new.settled.outs
+      pub holds : HoldsAt steps new.env new.met
+      pub grown : EnvGrows old.env new.env
+      pub same : SameBut new.changed old.env new.env
       pub changed : (id : Name) → list_any (bytes_eq id) old.changed ≡ true → list_any (bytes_eq id) new.changed ≡ true
-      pub slots : AreKept old.changed steps old.settled.met.items → AreKept new.changed steps new.settled.met.items
+      pub slots : AreKept old.changed steps old.met → AreKept new.changed steps new.met
       pub fewer : left_to_do steps new ≤ left_to_do steps old
 
-    -- and those that read the step of this id are looked at
+    -- and those that were left are looked at
     pub record WalksReaders (old new : Going) : Type 0 where
       pub on : WalksOn old new
-      pub looked : AreLookedAt new.settled.outs new.pending steps
+      pub looked : AreLookedAt new.env new.pending steps
 
     -- from old outputs
     pub record Goes (old : Env) (going : Going) : Type 0 where
-      pub holds : Holds facts place inputs steps going.settled.outs going.settled.met.items
-      pub grown : EnvGrows old going.settled.outs
-      pub same : SameBut going.changed old going.settled.outs
-      pub slots : AreKept going.changed steps going.settled.met.items
+      pub holds : HoldsAt steps going.env going.met
+      pub grown : EnvGrows old going.env
+      pub same : SameBut going.changed old going.env
+      pub slots : AreKept going.changed steps going.met
 
     -- until each is stuck
     pub record HasGone (ended : JobPlace) (old : Env) (going : Going) : Type 0 where
       pub goes : Goes old going
       pub above : HasAbove ended old steps going.changed
-      pub stuck : list_all (is_stuck going.settled.outs) steps ≡ true
+      pub stuck : list_all (is_stuck going.env) steps ≡ true
+
+    -- what is there is what the steps of these numbers meet
+    pub record AreRight (env : Env) (met : BTreeMap ℕ (List KeptMet)) : Type 0 where
+      pub right : (n : ℕ) (s : Name × Step) (one : List KeptMet) → n < length steps → s ≡ get_or steps n s → get nat_cmp met n ≡ Some one → map met_of one ≡ (walk_at facts place inputs env s).met
+      pub within : (n : ℕ) → is_some (get nat_cmp met n) ≡ true → n < length steps
+
+    -- with what those of these steps meet that were not walked
+    pub record Hears (env : Env) (under : ℕ → Name × Step → Bool) (old new : BTreeMap ℕ (List KeptMet)) : Type 0 where
+      pub right : AreRight env new
+      pub stays : (n : ℕ) → is_some (get nat_cmp old n) ≡ true → is_some (get nat_cmp new n) ≡ true
+      pub all : (n : ℕ) (s : Name × Step) → n < length steps → s ≡ get_or steps n s → under n s ≡ true
+          → (is_some (value_at s.0 env) ≡ true) ⊎ (is_some (get nat_cmp new n) ≡ true)
 
     -- what the steps meet whose outputs did not change, and that read none of those that did or were walked, was met before
     abbrev pub WasMet : List Met → Env → List Name → Type 0
     WasMet old env changed =
         (s : Name × Step) → IsIn s steps → list_any (bytes_eq s.0) changed ≡ false → (not (reads_one changed s.1) || is_some (value_at s.0 env)) ≡ true
         → (m : Met) → IsIn m (walk_at facts place inputs env s).met → IsIn m old
+
+  -- with what one step meets, if it was not walked
+  pub record HearsOne (env : Env) (number : ℕ) (s : Name × Step) (old new : BTreeMap ℕ (List KeptMet)) : Type 0 where
+    pub right : (n : ℕ) (one : List KeptMet) → get nat_cmp new n ≡ Some one → (get nat_cmp old n ≡ Some one) ⊎ ((n ≡ number) × (map met_of one ≡ (walk_at facts place inputs env s).met))
+    pub stays : (n : ℕ) → is_some (get nat_cmp old n) ≡ true → is_some (get nat_cmp new n) ≡ true
+    pub heard : (is_some (value_at s.0 env) ≡ true) ⊎ (is_some (get nat_cmp new number) ≡ true)

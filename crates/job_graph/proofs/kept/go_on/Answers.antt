@@ -35,14 +35,17 @@ walk_deeper-requires-clause-along c =
 pub returns-clause-kept : goal.returns-clause-kept
 returns-clause-kept c =
     kept_further c.args.facts.now c.args.fields.now c.args.workflow.now c.args.kept.inputs c.requires.kept.inputs c.new-root.result c.new-root.ensures c.len-2.result c.len-2.ensures
+    c.args.kept.readers c.requires.kept.table
     c.as_slice-outputs.result.now c.in_ok-deeper.deeper c.in_ok-deeper.ensures c.with_kept.result c.with_kept.ensures.kept
 
 pub returns-clause-met : goal.returns-clause-met
 returns-clause-met c =
     met_further c.args.facts.now c.args.fields.now c.args.workflow.now c.args.kept.inputs c.requires.kept.inputs c.new-root.result c.new-root.ensures c.len-2.result c.len-2.ensures
+    c.args.kept.readers c.requires.kept.table
     c.as_slice-outputs.result.now c.as_slice-outputs.ensures.entries c.in_ok-deeper.deeper c.in_ok-deeper.ensures c.with_kept.result.walk c.with_kept.ensures.walk
 
 pub returns-clause-outs : goal.returns-clause-outs
 returns-clause-outs c =
     outs_further c.args.facts.now c.args.fields.now c.args.workflow.now c.args.kept.inputs c.requires.kept.inputs c.new-root.result c.new-root.ensures c.len-2.result c.len-2.ensures
+    c.args.kept.readers c.requires.kept.table
     c.as_slice-outputs.result.now c.as_slice-outputs.ensures.entries c.in_ok-deeper.deeper c.in_ok-deeper.ensures c.with_kept.result.walk c.with_kept.ensures.walk

@@ -11,5 +11,6 @@ returns-in-Ok c =
     let hands : workflow_inputs_for c.args.facts.now.measures (out-Workflow c.args.workflow.now).inputs c.args.fields.now ≡ Ok c.in-Ok.inputs =
     ap (λ (inputs : List (Name × WorkflowInput)). workflow_inputs_for c.args.facts.now.measures inputs c.args.fields.now) (sym c.as_slice.ensures.entries) ∙ sym c.in_ok-inputs.ensures ∙ c.in-Ok.is in
     rooted_anew c.args.facts.now c.args.fields.now c.args.workflow.now c.in-Ok.inputs hands c.new-root.result c.new-root.ensures c.len.result c.len.ensures
+    c.in_ok-readers-in-Ok.readers c.in_ok-readers-in-Ok.ensures
     c.as_slice-outputs.result.now c.as_slice-outputs.ensures.entries c.in_ok-walked-in-Ok.walked c.in_ok-walked-in-Ok.ensures.walk c.in_ok-walked-in-Ok.ensures.env c.new.result c.new.ensures
     c.with_nested.result c.with_nested.ensures c.with_kept.result c.with_kept.ensures.walk c.with_kept.ensures.kept

@@ -10,6 +10,7 @@ use Rattle.job_graph.specs.Equations.{step_place}
 use Rattle.job_graph.specs.Words.{JobPlace, Name}
 use Rattle.job_graph.specs.inner.Going.{EndedBelow, facts_before}
 use Rattle.job_graph.specs.inner.Nested.{GoesOnIn, HasInner, KeepsAlong, MayKeep}
+use Rattle.job_graph.specs.inner.Readers.{IsTableOf}
 use Rattle.job_graph.specs.inner.Rounds.{IsSettled}
 use Rattle.job_graph.proofs.Inward.{IsStepAbove, ended_step, form_is, nested_ok, reverse_push, settled_at, step_is_above, went_on}
 use Rattle.job_graph.proofs.Loops.{if_found}
@@ -20,13 +21,13 @@ use Rattle.job_graph.proofs.laws_of_walks.Settled.{each_of, is_element}
 use Rattle.job_graph.proofs.nested.+nested.Goals as goal
 
 pub walk_deeper-met_deeper-requires : goal.walk_deeper-met_deeper-requires
-walk_deeper-met_deeper-requires t c = (omega arith, (c.requires.before, (c.requires.along, (c.requires.ended, c.requires.apart))))
+walk_deeper-met_deeper-requires t c = (omega arith, (c.requires.before, (c.requires.along, (c.requires.table, (c.requires.ended, c.requires.apart)))))
 
 pub met_deeper-inner_at-requires : goal.met_deeper-inner_at-requires
 met_deeper-inner_at-requires t c =
     let above : IsStepAbove c.args.ended.now c.args.env.now c.args.steps.now c.in-Some.number c.index-entries-number.result =
-    step_is_above c.args.ended.now c.args.env.now c.as_slice-entries.result.now c.args.steps.now c.as_slice-entries.ensures.entries c.step_above.result c.step_above.ensures c.in-Some.number c.in-Some.is
-    c.index-entries-number.result c.index-entries-number.is in
+    step_is_above c.args.ended.now c.args.env.now c.args.steps.now c.step_above.result (c.step_above.ensures c.args.steps.now c.requires.table) c.in-Some.number c.in-Some.is
+    c.as_slice-entries.result.now c.as_slice-entries.ensures.entries c.index-entries-number.result c.index-entries-number.is in
     let some : 0 < length c.args.ended.now = omega (arith, c.in-len1-up.len_at_least) in (
       omega arith,
       (
@@ -44,8 +45,8 @@ met_deeper-inner_at-requires t c =
 pub met_deeper-returns-in_ok-inner-in-len1-up : goal.met_deeper-returns-in_ok-inner-in-len1-up
 met_deeper-returns-in_ok-inner-in-len1-up t c =
     let above : IsStepAbove c.args.ended.now c.args.env.now c.args.steps.now c.in-Some.number c.index-entries-number.result =
-    step_is_above c.args.ended.now c.args.env.now c.as_slice-entries.result.now c.args.steps.now c.as_slice-entries.ensures.entries c.step_above.result c.step_above.ensures c.in-Some.number c.in-Some.is
-    c.index-entries-number.result c.index-entries-number.is in
+    step_is_above c.args.ended.now c.args.env.now c.args.steps.now c.step_above.result (c.step_above.ensures c.args.steps.now c.requires.table) c.in-Some.number c.in-Some.is
+    c.as_slice-entries.result.now c.as_slice-entries.ensures.entries c.index-entries-number.result c.index-entries-number.is in
     let some : 0 < length c.args.ended.now = omega (arith, c.in-len1-up.len_at_least) in
     let below : EndedBelow c.args.facts.now (step_place c.args.place.now c.index-entries-number.result.0 c.as_slice-tuple.result.now) c.after_first-rest.result.now =
     subst (λ (tuple : List ℕ). EndedBelow c.args.facts.now (step_place c.args.place.now c.index-entries-number.result.0 tuple) c.after_first-rest.result.now) (sym c.as_slice-tuple.ensures)
@@ -87,7 +88,8 @@ inner_at-returns t c =
 pub go_on-walk_deeper-requires : goal.go_on-walk_deeper-requires
 go_on-walk_deeper-requires t c =
     let settled : IsSettled (facts_before c.args.facts.now) c.in_ok-own-in-Workflow.own c.args.one.inputs (out-Workflow c.in-Workflow.workflow).steps c.args.one.env
-    × KeepsAlong (facts_before c.args.facts.now) c.in_ok-own-in-Workflow.own c.args.one.inputs (out-Workflow c.in-Workflow.workflow).steps c.args.one.env (reverse c.args.nested) =
+    × KeepsAlong (facts_before c.args.facts.now) c.in_ok-own-in-Workflow.own c.args.one.inputs (out-Workflow c.in-Workflow.workflow).steps c.args.one.env (reverse c.args.nested)
+    × IsTableOf c.args.one.readers (out-Workflow c.in-Workflow.workflow).steps =
     settled_at (facts_before c.args.facts.now) c.in_ok-own-in-Workflow.own (step_place c.args.place.now c.args.id.now c.args.one.tuple) c.in_ok-own-in-Workflow.ensures
     c.args.process.now c.in-Workflow.workflow c.in-Workflow.is c.args.one (reverse c.args.nested) c.requires.settled in (
       omega arith,
@@ -96,9 +98,12 @@ go_on-walk_deeper-requires t c =
         (
           settled.1,
           (
-            subst (λ (own : JobPlace). EndedBelow c.args.facts.now own c.args.rest.now) (sym c.in_ok-own-in-Workflow.ensures) c.requires.ended,
-            inside_workflow c.in-Workflow.workflow
-                (root_apart c.args.process.now c.in-Workflow.workflow (form_is c.args.process.now c.in-Workflow.workflow c.in-Workflow.is) c.requires.apart),
+            settled.2,
+            (
+              subst (λ (own : JobPlace). EndedBelow c.args.facts.now own c.args.rest.now) (sym c.in_ok-own-in-Workflow.ensures) c.requires.ended,
+              inside_workflow c.in-Workflow.workflow
+                  (root_apart c.args.process.now c.in-Workflow.workflow (form_is c.args.process.now c.in-Workflow.workflow c.in-Workflow.is) c.requires.apart),
+            ),
           ),
         ),
       ),

@@ -12,4 +12,4 @@ returns-in_ok-with_inner-in-Ok c =
     ap (λ (inputs : List (Name × WorkflowInput)). workflow_inputs_for c.args.facts.now.measures inputs c.args.given.now) (sym c.as_slice.ensures.entries) ∙ sym c.in_ok-inputs.ensures ∙ c.in-Ok.is in
     began c.args.facts.now c.args.own.now c.args.workflow.now c.args.given.now c.in-Ok.inputs hands c.as_slice-outputs.result.now c.as_slice-outputs.ensures.entries
     c.in_ok-walked-in-Ok.walked c.in_ok-walked-in-Ok.ensures.walk c.in_ok-walked-in-Ok.ensures.env c.new.result c.new.ensures c.with_nested.result c.with_nested.ensures
-    c.args.number c.args.tuple _ c.in_ok-with_inner-in-Ok.ensures.walk c.in_ok-with_inner-in-Ok.ensures.nested
+    c.in_ok-readers-in-Ok.readers c.in_ok-readers-in-Ok.ensures c.args.number c.args.tuple _ c.in_ok-with_inner-in-Ok.ensures.walk c.in_ok-with_inner-in-Ok.ensures.nested

@@ -5,7 +5,7 @@ abbrev pub invariant-loop-id : goal.invariant-loop-id
 invariant-loop-id l = record {
   goes : Goes l.facts l.place l.inputs l.steps l.fn.env l.going;
   above : HasAbove l.ended l.fn.env l.steps l.going.changed;
-  looked : AreLookedAt l.going.settled.outs l.going.pending l.steps;
+  looked : AreLookedAt l.going.env l.going.pending l.steps;
 }
 
 abbrev pub decreases-loop-id : goal.decreases-loop-id
