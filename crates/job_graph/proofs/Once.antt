@@ -23,7 +23,7 @@ none_later : (t : List ℕ) (ts : List (List ℕ)) → AllByRecursion (IsBefore 
 none_later t [] h = refl
 none_later t (u ∷ ts) h =
     let other : bytes_eq u t ≡ false =
-      false_from_ne_true (bytes_eq u t) (λ same. true≢false (sym ((bytes_eq-Decides t u).1 (sym ((bytes_eq-Decides u t).0 same))) ∙ differ t u h.0)) in
+    false_from_ne_true (bytes_eq u t) (λ same. true≢false (sym ((bytes_eq-Decides t u).1 (sym ((bytes_eq-Decides u t).0 same))) ∙ differ t u h.0)) in
     let here : one_if (bytes_eq u t) ≡ 0 = ap one_if other in
     let later : times t ts ≡ 0 = none_later t ts h.1 in
     omega (arith, here, later)
@@ -43,9 +43,11 @@ once t (u ∷ ts) rises (suc k, low, is) =
 
 in_together : (ns : List ℕ) (i : ℕ) → i < common ns → Contains (together ns) (replicate (length ns) i)
 unfolding below
-in_together ns i low =
-    (i, rw (length-map-range_with_len (λ index. replicate (length ns) index) 0 (common ns)) low,
-    get_or-map-range_with_len (λ index. replicate (length ns) index) 0 (common ns) i i (replicate (length ns) i) low (omega arith))
+in_together ns i low = (
+  i,
+  rw (length-map-range_with_len (λ index. replicate (length ns) index) 0 (common ns)) low,
+  get_or-map-range_with_len (λ index. replicate (length ns) index) 0 (common ns) i i (replicate (length ns) i) low (omega arith),
+)
 
 equal_all : (ns : List ℕ) → ns ≡ replicate (length ns) (common ns) → AreEqual ns
 equal_all ns same = subst (λ xs. All (λ n. n ≡ common ns) xs) (sym same) (All-replicate (λ n. n ≡ common ns) (length ns) (common ns) refl)
@@ -74,7 +76,7 @@ has_crossed ns tuple count low few is = record {
 
 -- nested or flat, a crossproduct has the same tuples
 pub has_nested : (ns tuple : List ℕ) → HasTuple FlatCrossproduct ns tuple → HasTuple NestedCrossproduct ns tuple
-has_nested ns tuple has = record { made = has.made; once = has.once; }
+has_nested ns tuple has = record { made = has.made; once = has.once }
 
 -- a product that is not too large is exact, and so is what was multiplied
 counted_more : (n : ℕ) (ns : List ℕ) (count product : ℕ) → (count ≤ MOST_TUPLES → count ≡ length (cross ns)) → product ≡ min (count * n) (2 ^ 64 - 1) → product ≤ MOST_TUPLES

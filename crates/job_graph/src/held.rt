@@ -142,7 +142,17 @@ fn is_held_over(
         (over_lengths (step_of facts.now step.now) id.now place.now values.now (Ok lengths))) }
 {
     let method = step.method.unwrap_or(Method::Dotproduct);
-    if is_held_by_last(alloc, facts, id, step, place, values, outs, tuple, lengths.as_slice())? {
+    if is_held_by_last(
+        alloc,
+        facts,
+        id,
+        step,
+        place,
+        values,
+        outs,
+        tuple,
+        lengths.as_slice(),
+    )? {
         return Ok(true);
     }
     match tuples_for(alloc, method, lengths.as_slice())? {

@@ -41,13 +41,11 @@ pub(crate) fn is_beside(one: &[Segment], other: &[Segment]) -> bool
         [first, rest @ ..] => match other {
             [] => false,
             [second, others @ ..] => {
-                if first.step.as_str() != second.step.as_str() {
-                    return false;
-                }
+                // Indexes are compared first: names are the same as a rule.
                 if first.index.as_slice() == second.index.as_slice() {
-                    is_beside(rest, others)
+                    first.step.as_str() == second.step.as_str() && is_beside(rest, others)
                 } else {
-                    are_at_end(rest, others)
+                    are_at_end(rest, others) && first.step.as_str() == second.step.as_str()
                 }
             }
         },

@@ -78,12 +78,13 @@ fn keep(given: &Given<'_>, course: &mut Course<'_>, next: NextPlan) -> Result<()
     }
 }
 
-/// Whether the outputs of some known job aren't at hand.
+/// Whether the outputs of some known job aren't at hand. As a rule those of the job that became known last aren't.
 fn some_are_away(course: &Course<'_>) -> bool
     ensures { MatchBool result (SomeAway course.now) (AllThere course.now) }
 {
-    for number in 0..known_in(&course.known).len() {
-        if !course.jobs.is_there(number) {
+    let count = known_in(&course.known).len();
+    for back in 0..count {
+        if !course.jobs.is_there(count - 1 - back) {
             return true;
         }
     }
