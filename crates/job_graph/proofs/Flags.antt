@@ -85,18 +85,18 @@ flags_grow learned old new before after front were grown =
 -- ---- of an unfolding
 
 -- there are as many flags as jobs
-pub flags_fit : (held : Progress) (known : List KnownJob) → IsFlagged held → known ≡ held.known.items → length held.ended.items ≡ length known
+pub flags_fit : (held : Progress) (known : List KnownJob) → IsFlagged held → known ≡ held.known → length held.ended.items ≡ length known
 flags_fit held known flagged is =
-    ap length flagged ∙ length-map held.known.items (has_ended (map resolved_of held.facts.learned)) ∙ ap length (sym is)
+    ap length flagged ∙ length-map held.known (has_ended (map resolved_of held.facts.learned)) ∙ ap length (sym is)
 
-pub no_flags : (held : Progress) → held.known.items ≡ [] → held.ended.items ≡ [] → IsFlagged held
+pub no_flags : (held : Progress) → held.known ≡ [] → held.ended.items ≡ [] → IsFlagged held
 no_flags held known none = none ∙ sym (ap (ended_of (map resolved_of held.facts.learned)) known)
 
 -- what is set at the place that was learned last
 pub flags_more : (old : Progress) (resolved : KeptResolved) (more : List KeptResolved) (known : List KnownJob) (flags : List Bool) → IsFlagged old →
-    more ≡ old.facts.learned ++ resolved ∷ [] → known ≡ old.known.items →
+    more ≡ old.facts.learned ++ resolved ∷ [] → known ≡ old.known →
     ((before : List KeptResolved) (one : KeptResolved) → more ≡ before ++ one ∷ [] → old.ended.items ≡ ended_of (map resolved_of before) known → flags ≡ ended_of (map resolved_of more) known) →
-    flags ≡ ended_of (map resolved_of more) old.known.items
+    flags ≡ ended_of (map resolved_of more) old.known
 flags_more old resolved more known flags flagged is same set =
     set old.facts.learned resolved is (flagged ∙ ap (ended_of (map resolved_of old.facts.learned)) (sym same)) ∙ ap (ended_of (map resolved_of more)) same
 
@@ -120,13 +120,13 @@ open_are_needed outs (b ∷ bs) (k ∷ ks) none as_many =
 
 -- of what the fields are, where they are lent
 pub needs_are : (held : Progress) (needed : List Bool) (outs : Fields) (flags : List Bool) (known : List KnownJob) → IsFlagged held →
-    needed ≡ map (needed_by outs) (zip flags known) → outs ≡ held.outputs.named.items → flags ≡ held.ended.items → known ≡ held.known.items →
-    needed ≡ needed_among (map resolved_of held.facts.learned) held.outputs.named.items (jobs_in held.known.items)
+    needed ≡ map (needed_by outs) (zip flags known) → outs ≡ held.outputs.named.items → flags ≡ held.ended.items → known ≡ held.known →
+    needed ≡ needed_among (map resolved_of held.facts.learned) held.outputs.named.items (jobs_in held.known)
 needs_are held needed outs flags known flagged made outs_are flags_are known_are =
     made
     ∙ ap (λ (named : Fields). map (needed_by named) (zip flags known)) outs_are
     ∙ ap₂ (λ (fs : List Bool) (ks : List KnownJob). map (needed_by held.outputs.named.items) (zip fs ks)) (flags_are ∙ flagged) known_are
-    ∙ needs_by (map resolved_of held.facts.learned) held.outputs.named.items held.known.items
+    ∙ needs_by (map resolved_of held.facts.learned) held.outputs.named.items held.known
 
 pub vertices_by : (learned : List Resolved) (outs : Fields) (known : List KnownJob) (costs : List Costs) →
     map (vertex_by outs) (zip (ended_of learned known) (zip known costs)) ≡ map (vertex_of learned outs) (zip (map known_of known) costs)

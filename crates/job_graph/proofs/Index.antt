@@ -14,8 +14,10 @@ use Rattle.std.proofs.lemmas.Cmp.{nat_cmp_total, tied_itself}
 use Rattle.std.proofs.lemmas.Map.Lookups.{exact_unsigned}
 use Rattle.job_graph.specs.declared.made.Resolved.{Resolved as KeptResolved}
 use Rattle.job_graph.specs.Words.{JobPlace, is_same_place}
-use Rattle.job_graph.specs.Unfold.{Resolved, outputs_at}
-use Rattle.job_graph.specs.inner.Index.{IsFirst, IsIndexed, before, has_mark}
+use Rattle.job_graph.specs.KnownJobs.{jobs_in}
+use Rattle.job_graph.specs.Unfold.{Resolved, outputs_at, is_at as at_job}
+use Rattle.job_graph.specs.declared.growth.KnownJob.{KnownJob}
+use Rattle.job_graph.specs.inner.Index.{IsFirst, IsIndexed, at_known, at_learned, before, has_mark}
 use Rattle.job_graph.specs.inner.Marks.{mark_of}
 use Rattle.job_graph.specs.inner.Views.{resolved_of}
 use Rattle.job_graph.proofs.Marks.{other_mark}
@@ -26,14 +28,14 @@ none_after learned first after = sym (drop_of_length-le learned (omega (arith, a
 
 -- ---- none passes in a part of a list
 
-module _ (p : KeptResolved → Bool) where
-  of_all : (n : ℕ) (xs : List KeptResolved) → list_any p xs ≡ false → list_any p (take n xs) ≡ false
+module _ {X : Type 0} (p : X → Bool) where
+  of_all : (n : ℕ) (xs : List X) → list_any p xs ≡ false → list_any p (take n xs) ≡ false
   of_all zero xs none = refl
   of_all (suc n) [] none = refl
   of_all (suc n) (x ∷ xs) none =
       ap₂ (λ (a b : Bool). a || b) (neither_one (p x) (list_any p xs) none) (of_all n xs (neither_other (p x) (list_any p xs) none))
 
-  of_fewer : (n m : ℕ) (xs : List KeptResolved) → m ≤ n → list_any p (take n xs) ≡ false → list_any p (take m xs) ≡ false
+  of_fewer : (n m : ℕ) (xs : List X) → m ≤ n → list_any p (take n xs) ≡ false → list_any p (take m xs) ≡ false
   of_fewer n zero xs less none = refl
   of_fewer zero (suc m) xs less none = absurd (omega (arith, less))
   of_fewer (suc n) (suc m) [] less none = refl
@@ -41,28 +43,35 @@ module _ (p : KeptResolved → Bool) where
       ap₂ (λ (a b : Bool). a || b) (neither_one (p x) (list_any p (take n xs)) none)
       (of_fewer n m xs (omega (arith, less)) (neither_other (p x) (list_any p (take n xs)) none))
 
-  with_last : (n : ℕ) (xs : List KeptResolved) (x : KeptResolved) → list_any p (take n xs) ≡ false → p x ≡ false → list_any p (take n (xs ++ x ∷ [])) ≡ false
+  taken : (n m : ℕ) (xs : List X) → list_any p (take m xs) ≡ false → list_any p (take m (take n xs)) ≡ false
+  taken n zero xs none = refl
+  taken zero (suc m) xs none = refl
+  taken (suc n) (suc m) [] none = refl
+  taken (suc n) (suc m) (x ∷ xs) none =
+      ap₂ (λ (a b : Bool). a || b) (neither_one (p x) (list_any p (take m xs)) none) (taken n m xs (neither_other (p x) (list_any p (take m xs)) none))
+
+  with_last : (n : ℕ) (xs : List X) (x : X) → list_any p (take n xs) ≡ false → p x ≡ false → list_any p (take n (xs ++ x ∷ [])) ≡ false
   with_last zero xs x none last = refl
   with_last (suc n) [] x none last = ap₂ (λ (a b : Bool). a || b) last (of_all n [] refl)
   with_last (suc n) (y ∷ ys) x none last =
       ap₂ (λ (a b : Bool). a || b) (neither_one (p y) (list_any p (take n ys)) none) (with_last n ys x (neither_other (p y) (list_any p (take n ys)) none) last)
 
-  without_last : (n : ℕ) (xs : List KeptResolved) (x : KeptResolved) → list_any p (take n (xs ++ x ∷ [])) ≡ false → list_any p (take n xs) ≡ false
+  without_last : (n : ℕ) (xs : List X) (x : X) → list_any p (take n (xs ++ x ∷ [])) ≡ false → list_any p (take n xs) ≡ false
   without_last zero xs x none = refl
   without_last (suc n) [] x none = refl
   without_last (suc n) (y ∷ ys) x none =
       ap₂ (λ (a b : Bool). a || b) (neither_one (p y) (list_any p (take n (ys ++ x ∷ []))) none)
       (without_last n ys x (neither_other (p y) (list_any p (take n (ys ++ x ∷ []))) none))
 
-  before_more : (o : Option ℕ) (xs : List KeptResolved) (x : KeptResolved) → list_any p (before o xs) ≡ false → p x ≡ false → list_any p (before o (xs ++ x ∷ [])) ≡ false
+  before_more : (o : Option ℕ) (xs : List X) (x : X) → list_any p (before o xs) ≡ false → p x ≡ false → list_any p (before o (xs ++ x ∷ [])) ≡ false
   before_more None xs x none last = list_any-append p xs (x ∷ []) ∙ ap₂ (λ (a b : Bool). a || (b || false)) none last
   before_more (Some n) xs x none last = with_last n xs x none last
 
-  before_less : (o : Option ℕ) (xs : List KeptResolved) (x : KeptResolved) → list_any p (before o (xs ++ x ∷ [])) ≡ false → list_any p (before o xs) ≡ false
+  before_less : (o : Option ℕ) (xs : List X) (x : X) → list_any p (before o (xs ++ x ∷ [])) ≡ false → list_any p (before o xs) ≡ false
   before_less None xs x none = neither_one (list_any p xs) (list_any p (x ∷ [])) (sym (list_any-append p xs (x ∷ [])) ∙ none)
   before_less (Some n) xs x none = without_last n xs x none
 
-  before_first : (o : Option ℕ) (xs : List KeptResolved) (first : ℕ) → list_any p (before o xs) ≡ false → IsFirst o (length xs) first → list_any p (take first xs) ≡ false
+  before_first : (o : Option ℕ) (xs : List X) (first : ℕ) → list_any p (before o xs) ≡ false → IsFirst o (length xs) first → list_any p (take first xs) ≡ false
   before_first None xs first none is = of_all first xs none
   before_first (Some n) xs first none is = of_fewer n first xs is.0 none
 
@@ -88,80 +97,116 @@ module _ (place : JobPlace) where
   abbrev at_place : Resolved → Bool
   at_place r = is_same_place r.place place
 
-  not_there : (x : KeptResolved) → has_mark (mark_of place) x ≡ false → at_place (resolved_of x) ≡ false
+  not_there : (x : KeptResolved) → has_mark at_learned (mark_of place) x ≡ false → at_place (resolved_of x) ≡ false
   not_there x none = other_mark x.at.place place (λ same.
-      not_both (has_mark (mark_of place) x) (ap (λ (mark : ℕ). is_eq (nat_cmp mark (mark_of place))) same ∙ itself (mark_of place)) none)
+      not_both (has_mark at_learned (mark_of place) x) (ap (λ (mark : ℕ). is_eq (nat_cmp mark (mark_of place))) same ∙ itself (mark_of place)) none)
 
-  none_found : (xs : List KeptResolved) → list_any (has_mark (mark_of place)) xs ≡ false → find at_place (map resolved_of xs) ≡ None
+  none_found : (xs : List KeptResolved) → list_any (has_mark at_learned (mark_of place)) xs ≡ false → find at_place (map resolved_of xs) ≡ None
   none_found [] none = refl
   none_found (x ∷ xs) none =
-      ap (λ (b : Bool). cond b (Some (resolved_of x)) (find at_place (map resolved_of xs))) (not_there x (neither_one (has_mark (mark_of place) x) (list_any (has_mark (mark_of place)) xs) none))
-      ∙ none_found xs (neither_other (has_mark (mark_of place) x) (list_any (has_mark (mark_of place)) xs) none)
+      ap (λ (b : Bool). cond b (Some (resolved_of x)) (find at_place (map resolved_of xs))) (not_there x (neither_one (has_mark at_learned (mark_of place) x) (list_any (has_mark at_learned (mark_of place)) xs) none))
+      ∙ none_found xs (neither_other (has_mark at_learned (mark_of place) x) (list_any (has_mark at_learned (mark_of place)) xs) none)
 
-  found_later : (n : ℕ) (xs : List KeptResolved) → list_any (has_mark (mark_of place)) (take n xs) ≡ false → find at_place (map resolved_of xs) ≡ find at_place (map resolved_of (drop n xs))
+  found_later : (n : ℕ) (xs : List KeptResolved) → list_any (has_mark at_learned (mark_of place)) (take n xs) ≡ false → find at_place (map resolved_of xs) ≡ find at_place (map resolved_of (drop n xs))
   found_later zero xs none = refl
   found_later (suc n) [] none = refl
   found_later (suc n) (x ∷ xs) none =
-      ap (λ (b : Bool). cond b (Some (resolved_of x)) (find at_place (map resolved_of xs))) (not_there x (neither_one (has_mark (mark_of place) x) (list_any (has_mark (mark_of place)) (take n xs)) none))
-      ∙ found_later n xs (neither_other (has_mark (mark_of place) x) (list_any (has_mark (mark_of place)) (take n xs)) none)
+      ap (λ (b : Bool). cond b (Some (resolved_of x)) (find at_place (map resolved_of xs))) (not_there x (neither_one (has_mark at_learned (mark_of place) x) (list_any (has_mark at_learned (mark_of place)) (take n xs)) none))
+      ∙ found_later n xs (neither_other (has_mark at_learned (mark_of place) x) (list_any (has_mark at_learned (mark_of place)) (take n xs)) none)
 
-none_before : (firsts : BTreeMap ℕ ℕ) (learned : List KeptResolved) (place : JobPlace) (mark : ℕ) (o : Option ℕ) → IsIndexed firsts learned → mark ≡ mark_of place → get nat_cmp firsts mark ≡ o
-    → list_any (has_mark (mark_of place)) (before o learned) ≡ false
-none_before firsts learned place mark o indexed is got =
-    subst (λ (m : ℕ). list_any (has_mark m) (before o learned) ≡ false) is (subst (λ (found : Option ℕ). list_any (has_mark mark) (before found learned) ≡ false) got (indexed mark))
+none_before : {X : Type 0} (place_of : X → JobPlace) (firsts : BTreeMap ℕ ℕ) (xs : List X) (place : JobPlace) (mark : ℕ) (o : Option ℕ) → IsIndexed place_of firsts xs → mark ≡ mark_of place → get nat_cmp firsts mark ≡ o
+    → list_any (has_mark place_of (mark_of place)) (before o xs) ≡ false
+none_before place_of firsts xs place mark o indexed is got =
+    subst (λ (m : ℕ). list_any (has_mark place_of m) (before o xs) ≡ false) is (subst (λ (found : Option ℕ). list_any (has_mark place_of mark) (before found xs) ≡ false) got (indexed mark))
 
-pub outputs_nowhere : (firsts : BTreeMap ℕ ℕ) (learned : List KeptResolved) (place : JobPlace) (mark : ℕ) → IsIndexed firsts learned → mark ≡ mark_of place → get nat_cmp firsts mark ≡ None
+pub outputs_nowhere : (firsts : BTreeMap ℕ ℕ) (learned : List KeptResolved) (place : JobPlace) (mark : ℕ) → IsIndexed at_learned firsts learned → mark ≡ mark_of place → get nat_cmp firsts mark ≡ None
     → outputs_at (map resolved_of learned) place ≡ None
 outputs_nowhere firsts learned place mark indexed is got =
-    ap (option_map (λ r. r.outputs)) (none_found place learned (none_before firsts learned place mark None indexed is got))
+    ap (option_map (λ r. r.outputs)) (none_found place learned (none_before at_learned firsts learned place mark None indexed is got))
 
-pub outputs_later : (firsts : BTreeMap ℕ ℕ) (learned : List KeptResolved) (place : JobPlace) (mark first : ℕ) → IsIndexed firsts learned → mark ≡ mark_of place → get nat_cmp firsts mark ≡ Some first
+pub outputs_later : (firsts : BTreeMap ℕ ℕ) (learned : List KeptResolved) (place : JobPlace) (mark first : ℕ) → IsIndexed at_learned firsts learned → mark ≡ mark_of place → get nat_cmp firsts mark ≡ Some first
     → outputs_at (map resolved_of learned) place ≡ outputs_at (map resolved_of (drop first learned)) place
 outputs_later firsts learned place mark first indexed is got =
-    ap (option_map (λ r. r.outputs)) (found_later place first learned (none_before firsts learned place mark (Some first) indexed is got))
+    ap (option_map (λ r. r.outputs)) (found_later place first learned (none_before at_learned firsts learned place mark (Some first) indexed is got))
+
+-- ---- whether a job is known
+
+module _ (place : JobPlace) where
+  not_at : (x : KnownJob) → has_mark at_known (mark_of place) x ≡ false → is_same_place x.job.place place ≡ false
+  not_at x none = other_mark x.job.place place (λ same.
+      not_both (has_mark at_known (mark_of place) x) (ap (λ (mark : ℕ). is_eq (nat_cmp mark (mark_of place))) same ∙ itself (mark_of place)) none)
+
+  none_known : (xs : List KnownJob) → list_any (has_mark at_known (mark_of place)) xs ≡ false → list_any (at_job place) (jobs_in xs) ≡ false
+  none_known [] none = refl
+  none_known (x ∷ xs) none =
+      ap₂ (λ (a b : Bool). a || b) (not_at x (neither_one (has_mark at_known (mark_of place) x) (list_any (has_mark at_known (mark_of place)) xs) none))
+      (none_known xs (neither_other (has_mark at_known (mark_of place) x) (list_any (has_mark at_known (mark_of place)) xs) none))
+
+  known_after : (n : ℕ) (xs : List KnownJob) → list_any (has_mark at_known (mark_of place)) (take n xs) ≡ false → list_any (at_job place) (jobs_in (drop n xs)) ≡ list_any (at_job place) (jobs_in xs)
+  known_after zero xs none = refl
+  known_after (suc n) [] none = refl
+  known_after (suc n) (x ∷ xs) none =
+      known_after n xs (neither_other (has_mark at_known (mark_of place) x) (list_any (has_mark at_known (mark_of place)) (take n xs)) none)
+      ∙ sym (ap (λ (b : Bool). b || list_any (at_job place) (jobs_in xs)) (not_at x (neither_one (has_mark at_known (mark_of place) x) (list_any (has_mark at_known (mark_of place)) (take n xs)) none)))
+
+pub known_nowhere : (firsts : BTreeMap ℕ ℕ) (known : List KnownJob) (place : JobPlace) (mark : ℕ) → IsIndexed at_known firsts known → mark ≡ mark_of place → get nat_cmp firsts mark ≡ None
+    → list_any (at_job place) (jobs_in known) ≡ false
+known_nowhere firsts known place mark indexed is got = none_known place known (none_before at_known firsts known place mark None indexed is got)
+
+pub known_later : (firsts : BTreeMap ℕ ℕ) (known : List KnownJob) (place : JobPlace) (mark first : ℕ) → IsIndexed at_known firsts known → mark ≡ mark_of place → get nat_cmp firsts mark ≡ Some first
+    → list_any (at_job place) (jobs_in (drop first known)) ≡ list_any (at_job place) (jobs_in known)
+known_later firsts known place mark first indexed is got = known_after place first known (none_before at_known firsts known place mark (Some first) indexed is got)
 
 -- ---- what stays indexed
 
-pub none_indexed : (firsts : BTreeMap ℕ ℕ) (learned : List KeptResolved) → learned ≡ [] → IsIndexed firsts learned
-none_indexed firsts learned none mark =
-    subst (λ (xs : List KeptResolved). list_any (has_mark mark) (before (get nat_cmp firsts mark) xs) ≡ false) (sym none) (by (get nat_cmp firsts mark))
-  where
-    by : (o : Option ℕ) → list_any (has_mark mark) (before o []) ≡ false
-    by None = refl
-    by (Some n) = of_all (has_mark mark) n [] refl
-
-pub same_indexed : (old new : BTreeMap ℕ ℕ) (learned : List KeptResolved) → IsIndexed old learned → IsUnchanged old new → IsIndexed new learned
-same_indexed old new learned indexed same mark =
-    subst (λ (es : List (ℕ × ℕ)). list_any (has_mark mark) (before (lookup (is_at (nat_cmp mark)) es) learned) ≡ false) (sym same) (indexed mark)
-
-pub popped_indexed : (firsts : BTreeMap ℕ ℕ) (old new : List KeptResolved) (found : Option KeptResolved) → IsIndexed firsts old
-    → MatchOption found ((old ≡ []) × (new ≡ [])) (λ last. old ≡ new ++ last ∷ []) → IsIndexed firsts new
-popped_indexed firsts old new None indexed off mark = none_indexed firsts new off.1 mark
-popped_indexed firsts old new (Some last) indexed off mark =
-    before_less (has_mark mark) (get nat_cmp firsts mark) new last
-    (subst (λ (xs : List KeptResolved). list_any (has_mark mark) (before (get nat_cmp firsts mark) xs) ≡ false) off (indexed mark))
-
-module _ (old new : BTreeMap ℕ ℕ) (learned : List KeptResolved) (mark first : ℕ) (indexed : IsIndexed old learned) (is : IsFirst (get nat_cmp old mark) (length learned) first) (put : Updates nat_cmp old new mark (Some first)) where
-  none_first : (q : ℕ) → is_at (nat_cmp mark) q ≡ true → list_any (has_mark q) (take first learned) ≡ false
-  none_first q same =
-      subst (λ (m : ℕ). list_any (has_mark m) (take first learned) ≡ false) (exact_unsigned mark q (is_equal (nat_cmp mark q) same))
-      (before_first (has_mark mark) (get nat_cmp old mark) learned first (indexed mark) is)
-
-  pub put_indexed : IsIndexed new learned
-  put_indexed q = subst (λ (o : Option ℕ). list_any (has_mark q) (before o learned) ≡ false) (sym (put.0 q)) (by (is_at (nat_cmp mark) q) refl)
+module _ {X : Type 0} (place_of : X → JobPlace) where
+  pub none_indexed : (firsts : BTreeMap ℕ ℕ) (learned : List X) → learned ≡ [] → IsIndexed place_of firsts learned
+  none_indexed firsts learned none mark =
+      subst (λ (xs : List X). list_any (has_mark place_of mark) (before (get nat_cmp firsts mark) xs) ≡ false) (sym none) (by (get nat_cmp firsts mark))
     where
-      by : (same : Bool) → is_at (nat_cmp mark) q ≡ same → list_any (has_mark q) (before (cond same (Some first) (get nat_cmp old q)) learned) ≡ false
-      by true same = none_first q same
-      by false other = indexed q
+      by : (o : Option ℕ) → list_any (has_mark place_of mark) (before o []) ≡ false
+      by None = refl
+      by (Some n) = of_all (has_mark place_of mark) n [] refl
 
-  pub pushed_indexed : (one : KeptResolved) → mark ≡ mark_of one.at.place → IsIndexed new (learned ++ one ∷ [])
-  pushed_indexed one marked q = subst (λ (o : Option ℕ). list_any (has_mark q) (before o (learned ++ one ∷ [])) ≡ false) (sym (put.0 q)) (by (is_at (nat_cmp mark) q) refl)
+  pub same_indexed : (old new : BTreeMap ℕ ℕ) (learned : List X) → IsIndexed place_of old learned → IsUnchanged old new → IsIndexed place_of new learned
+  same_indexed old new learned indexed same mark =
+      subst (λ (es : List (ℕ × ℕ)). list_any (has_mark place_of mark) (before (lookup (is_at (nat_cmp mark)) es) learned) ≡ false) (sym same) (indexed mark)
+
+  pub popped_indexed : (firsts : BTreeMap ℕ ℕ) (old new : List X) (found : Option X) → IsIndexed place_of firsts old
+      → MatchOption found ((old ≡ []) × (new ≡ [])) (λ last. old ≡ new ++ last ∷ []) → IsIndexed place_of firsts new
+  popped_indexed firsts old new None indexed off mark = none_indexed firsts new off.1 mark
+  popped_indexed firsts old new (Some last) indexed off mark =
+      before_less (has_mark place_of mark) (get nat_cmp firsts mark) new last
+      (subst (λ (xs : List X). list_any (has_mark place_of mark) (before (get nat_cmp firsts mark) xs) ≡ false) off (indexed mark))
+
+  module _ (old new : BTreeMap ℕ ℕ) (learned : List X) (mark first : ℕ) (indexed : IsIndexed place_of old learned) (is : IsFirst (get nat_cmp old mark) (length learned) first) (put : Updates nat_cmp old new mark (Some first)) where
+    none_first : (q : ℕ) → is_at (nat_cmp mark) q ≡ true → list_any (has_mark place_of q) (take first learned) ≡ false
+    none_first q same =
+        subst (λ (m : ℕ). list_any (has_mark place_of m) (take first learned) ≡ false) (exact_unsigned mark q (is_equal (nat_cmp mark q) same))
+        (before_first (has_mark place_of mark) (get nat_cmp old mark) learned first (indexed mark) is)
+
+    pub put_indexed : IsIndexed place_of new learned
+    put_indexed q = subst (λ (o : Option ℕ). list_any (has_mark place_of q) (before o learned) ≡ false) (sym (put.0 q)) (by (is_at (nat_cmp mark) q) refl)
+      where
+        by : (same : Bool) → is_at (nat_cmp mark) q ≡ same → list_any (has_mark place_of q) (before (cond same (Some first) (get nat_cmp old q)) learned) ≡ false
+        by true same = none_first q same
+        by false other = indexed q
+
+    pub pushed_indexed : (one : X) → mark ≡ mark_of (place_of one) → IsIndexed place_of new (learned ++ one ∷ [])
+    pushed_indexed one marked q = subst (λ (o : Option ℕ). list_any (has_mark place_of q) (before o (learned ++ one ∷ [])) ≡ false) (sym (put.0 q)) (by (is_at (nat_cmp mark) q) refl)
+      where
+        by : (same : Bool) → is_at (nat_cmp mark) q ≡ same → list_any (has_mark place_of q) (before (cond same (Some first) (get nat_cmp old q)) (learned ++ one ∷ [])) ≡ false
+        by true same =
+            ap (list_any (has_mark place_of q)) (take-append-le first learned (one ∷ []) (is_within (get nat_cmp old mark) (length learned) first is)) ∙ none_first q same
+        by false other = before_more (has_mark place_of q) (get nat_cmp old q) learned one (indexed q) (ap (λ (m : ℕ). is_at (nat_cmp m) q) (sym marked) ∙ other)
+
+    pub pushed_or_not : {T E : Type 0} (result : Result T E) (after : List X) (one : X) → mark ≡ mark_of (place_of one) → OnOk result (after ≡ learned ++ one ∷ []) → OnErr result (after ≡ learned) → IsIndexed place_of new after
+    pushed_or_not (Ok done) after one marked ok err = subst (IsIndexed place_of new) (sym ok) (pushed_indexed one marked)
+    pushed_or_not (Err error) after one marked ok err = subst (IsIndexed place_of new) (sym err) put_indexed
+
+  pub cut_indexed : (firsts : BTreeMap ℕ ℕ) (xs : List X) (n : ℕ) → IsIndexed place_of firsts xs → IsIndexed place_of firsts (take n xs)
+  cut_indexed firsts xs n indexed mark = by (get nat_cmp firsts mark) (indexed mark)
     where
-      by : (same : Bool) → is_at (nat_cmp mark) q ≡ same → list_any (has_mark q) (before (cond same (Some first) (get nat_cmp old q)) (learned ++ one ∷ [])) ≡ false
-      by true same =
-          ap (list_any (has_mark q)) (take-append-le first learned (one ∷ []) (is_within (get nat_cmp old mark) (length learned) first is)) ∙ none_first q same
-      by false other = before_more (has_mark q) (get nat_cmp old q) learned one (indexed q) (ap (λ (m : ℕ). is_at (nat_cmp m) q) (sym marked) ∙ other)
-
-  pub pushed_or_not : {T E : Type 0} (result : Result T E) (after : List KeptResolved) (one : KeptResolved) → mark ≡ mark_of one.at.place → OnOk result (after ≡ learned ++ one ∷ []) → OnErr result (after ≡ learned) → IsIndexed new after
-  pushed_or_not (Ok done) after one marked ok err = subst (IsIndexed new) (sym ok) (pushed_indexed one marked)
-  pushed_or_not (Err error) after one marked ok err = subst (IsIndexed new) (sym err) put_indexed
+      by : (o : Option ℕ) → list_any (has_mark place_of mark) (before o xs) ≡ false → list_any (has_mark place_of mark) (before o (take n xs)) ≡ false
+      by None none = of_all (has_mark place_of mark) n xs none
+      by (Some m) none = taken (has_mark place_of mark) n m xs none

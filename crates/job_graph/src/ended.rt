@@ -10,6 +10,7 @@ ghost use Rattle.job_graph.specs.inner.Views.{met_of, resolved_of};
 use crate::fault::UnfoldError;
 use crate::growing::grow;
 use crate::growth::KnownJob;
+use crate::known::Known;
 use crate::learned::Learned;
 use crate::walk::Met;
 use cwl_value::Segment;
@@ -20,15 +21,15 @@ use std::alloc::{AllocError, Global};
 pub(crate) fn grow_flagged<'a>(
     alloc: Global,
     learned: &Learned,
-    known: &mut Vec<KnownJob<'a>>,
+    known: &mut Known<'a>,
     ended: &mut Vec<bool>,
     entries: usize,
     met: Items<Met<'a>>,
 ) -> Result<usize, UnfoldError>
-    ensures grows { Grows known.old.items entries (map met_of met.entry) known.new.items result }
+    ensures grows { Grows known.old entries (map met_of met.entry) known.new result }
     ensures ended { OnOk result (ended.new.items ≡ ended.old.items
         ++ ended_of (map resolved_of learned.now)
-        (drop (length ended.old.items) known.new.items)) }
+        (drop (length ended.old.items) known.new)) }
     ensures front { OnErr result (take (length ended.old.items) ended.new.items
         ≡ ended.old.items) }
 {
