@@ -95,12 +95,7 @@ impl<'a> Known<'a> {
 }
 
 /// The number of the first job at a place, from a position on. The mark of the place is given too.
-fn number_from(
-    known: &[KnownJob<'_>],
-    first: usize,
-    place: &[Segment],
-    mark: u64,
-) -> Option<usize>
+fn number_from(known: &[KnownJob<'_>], first: usize, place: &[Segment], mark: u64) -> Option<usize>
     requires { mark ≡ mark_of place.now }
     ensures { is_some result ≡ list_any (is_at place.now) (jobs_in (drop first known.now)) }
 {
