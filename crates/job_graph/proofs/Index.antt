@@ -201,6 +201,20 @@ any_known (x ∷ xs) place (suc n) k below at same =
     or_true true b is = refl
     or_true false b is = is
 
+pub some_known : (known : List KnownJob) (place : JobPlace) → list_any (at_job place) (jobs_in known) ≡ true
+    → (m : ℕ) × ((k : KnownJob) × ((m < length known) × ((k ≡ get_or known m k) × (is_same_place k.job.place place ≡ true))))
+some_known [] place some = absurd (not_both false some refl)
+some_known (x ∷ xs) place some = by (is_same_place x.job.place place) refl some (some_known xs place)
+  where
+    by : (b : Bool) → is_same_place x.job.place place ≡ b → (is_same_place x.job.place place || list_any (at_job place) (jobs_in xs)) ≡ true
+        → (list_any (at_job place) (jobs_in xs) ≡ true → (m : ℕ) × ((k : KnownJob) × ((m < length xs) × ((k ≡ get_or xs m k) × (is_same_place k.job.place place ≡ true)))))
+        → (m : ℕ) × ((k : KnownJob) × ((m < length (x ∷ xs)) × ((k ≡ get_or (x ∷ xs) m k) × (is_same_place k.job.place place ≡ true))))
+    by true is some rest = (0, (x, (omega arith, (refl, is))))
+    by false is some rest =
+        let found : (m : ℕ) × ((k : KnownJob) × ((m < length xs) × ((k ≡ get_or xs m k) × (is_same_place k.job.place place ≡ true)))) =
+        rest (sym (ap (λ (b : Bool). b || list_any (at_job place) (jobs_in xs)) is) ∙ some) in
+        (suc found.0, (found.1.0, (omega (arith, found.1.1.0), (found.1.1.1.0, found.1.1.1.1))))
+
 -- where it is known nowhere, it has no number
 pub no_number : (known : List KnownJob) (place : JobPlace) → list_any (at_job place) (jobs_in known) ≡ false → IsNumberAt place known None
 no_number known place none = λ n k below at same. absurd (not_both (list_any (at_job place) (jobs_in known)) (any_known known place n k below at same) none)
