@@ -1,6 +1,6 @@
 -- What an index by marks says of what was learned, and that it stays so.
-use Rattle.std.proofs.Common.{◌≡◌, ◌∙◌, ◌≤◌, ◌<◌, ℕ, zero, suc, List, [], ◌∷◌, ◌++◌, map, length, take, drop, find, Bool, true, false, cond, Option, Some, None, option_map, refl, sym, ap, ap₂, subst, arith}
-use Rattle.std.specs.Prelude.{◌||◌, MatchOption, OnErr, OnOk, Result, Ok, Err}
+use Rattle.std.proofs.Common.{◌≡◌, ◌∙◌, ◌⊎◌, inl, inr, ⊎_elim, get_or, ◌≤◌, ◌<◌, ℕ, zero, suc, List, [], ◌∷◌, ◌++◌, map, length, take, drop, find, Bool, true, false, cond, Option, Some, None, option_map, refl, sym, ap, ap₂, subst, arith}
+use Rattle.std.specs.Prelude.{◌||◌, IfSome, is_some, MatchOption, OnErr, OnOk, Result, Ok, Err}
 use Rattle.std.specs.BTreeMap.{BTreeMap, IsUnchanged, Updates, get, is_at}
 use Rattle.std.specs.List.{list_any}
 use Rattle.std.specs.Map.{lookup}
@@ -17,10 +17,11 @@ use Rattle.job_graph.specs.Words.{JobPlace, is_same_place}
 use Rattle.job_graph.specs.KnownJobs.{jobs_in}
 use Rattle.job_graph.specs.Unfold.{Resolved, outputs_at, is_at as at_job}
 use Rattle.job_graph.specs.declared.growth.KnownJob.{KnownJob}
-use Rattle.job_graph.specs.inner.Index.{IsFirst, IsIndexed, at_known, at_learned, before, has_mark}
+use Rattle.job_graph.specs.inner.Index.{AreApart, IsFirst, IsIndexed, IsNumberAt, at_known, at_learned, before, has_mark}
 use Rattle.job_graph.specs.inner.Marks.{mark_of}
 use Rattle.job_graph.specs.inner.Views.{resolved_of}
 use Rattle.job_graph.proofs.Marks.{other_mark}
+use Rattle.job_graph.proofs.laws_of_walks.Known.{same_place}
 use Rattle.job_graph.proofs.laws_of_walks.Part.{neither_one, neither_other}
 
 pub none_after : (learned : List KeptResolved) (first : ℕ) → length learned < first → [] ≡ drop first learned
@@ -156,6 +157,93 @@ known_nowhere firsts known place mark indexed is got = none_known place known (n
 pub known_later : (firsts : BTreeMap ℕ ℕ) (known : List KnownJob) (place : JobPlace) (mark first : ℕ) → IsIndexed at_known firsts known → mark ≡ mark_of place → get nat_cmp firsts mark ≡ Some first
     → list_any (at_job place) (jobs_in (drop first known)) ≡ list_any (at_job place) (jobs_in known)
 known_later firsts known place mark first indexed is got = known_after place first known (none_before at_known firsts known place mark (Some first) indexed is got)
+
+-- ---- known jobs are at different places
+
+an_element : (xs : List KnownJob) (n : ℕ) → n < length xs → (x : KnownJob) × (x ≡ get_or xs n x)
+an_element [] n below = absurd (omega (arith, below))
+an_element (x ∷ xs) zero below = (x, refl)
+an_element (x ∷ xs) (suc n) below = let less : n < length xs = omega (arith, below) in an_element xs n less
+
+in_whole : (xs : List KnownJob) (c n : ℕ) → n < length (take c xs) → n < length xs
+in_whole xs zero n below = absurd (omega (arith, below))
+in_whole [] (suc c) n below = absurd (omega (arith, below))
+in_whole (x ∷ xs) (suc c) zero below = omega arith
+in_whole (x ∷ xs) (suc c) (suc n) below = let less : n < length (take c xs) = omega (arith, below) in omega (arith, in_whole xs c n less)
+
+same_in : (xs : List KnownJob) (c n : ℕ) (d : KnownJob) → n < length (take c xs) → get_or (take c xs) n d ≡ get_or xs n d
+same_in xs zero n d below = absurd (omega (arith, below))
+same_in [] (suc c) n d below = refl
+same_in (x ∷ xs) (suc c) zero d below = refl
+same_in (x ∷ xs) (suc c) (suc n) d below = let less : n < length (take c xs) = omega (arith, below) in same_in xs c n d less
+
+in_parts : (xs : List KnownJob) (one : KnownJob) (n : ℕ) (s : KnownJob) → n < length (xs ++ one ∷ []) → s ≡ get_or (xs ++ one ∷ []) n s
+    → ((n < length xs) × (s ≡ get_or xs n s)) ⊎ ((n ≡ length xs) × (s ≡ one))
+in_parts [] one zero s below at = inr (refl, at)
+in_parts [] one (suc n) s below at = absurd (omega (arith, below))
+in_parts (x ∷ xs) one zero s below at = inl (omega arith, at)
+in_parts (x ∷ xs) one (suc n) s below at =
+    let less : n < length (xs ++ one ∷ []) = omega (arith, below) in
+    ⊎_elim (λ front. inl (omega (arith, front.0), front.1)) (λ last. inr (ap suc last.0, last.1)) (in_parts xs one n s less at)
+
+pub turned_place : (s t one : JobPlace) → s ≡ one → is_same_place s t ≡ true → is_same_place t one ≡ true
+turned_place s t one is same =
+    let equal : s ≡ t = same_place s t same in
+    subst (λ (p : JobPlace). is_same_place t p ≡ true) is (subst (λ (p : JobPlace). is_same_place p s ≡ true) equal (subst (λ (p : JobPlace). is_same_place s p ≡ true) (sym equal) same))
+
+pub any_known : (known : List KnownJob) (place : JobPlace) (n : ℕ) (k : KnownJob) → n < length known → k ≡ get_or known n k → is_same_place k.job.place place ≡ true → list_any (at_job place) (jobs_in known) ≡ true
+any_known [] place n k below at same = absurd (omega (arith, below))
+any_known (x ∷ xs) place zero k below at same = ap (λ (y : KnownJob). is_same_place y.job.place place || list_any (at_job place) (jobs_in xs)) (sym at) ∙ ap (λ (b : Bool). b || list_any (at_job place) (jobs_in xs)) same
+any_known (x ∷ xs) place (suc n) k below at same =
+    let less : n < length xs = omega (arith, below) in or_true (is_same_place x.job.place place) (list_any (at_job place) (jobs_in xs)) (any_known xs place n k less at same)
+  where
+    or_true : (a b : Bool) → b ≡ true → (a || b) ≡ true
+    or_true true b is = refl
+    or_true false b is = is
+
+pub some_known : (known : List KnownJob) (place : JobPlace) → list_any (at_job place) (jobs_in known) ≡ true
+    → (m : ℕ) × ((k : KnownJob) × ((m < length known) × ((k ≡ get_or known m k) × (is_same_place k.job.place place ≡ true))))
+some_known [] place some = absurd (not_both false some refl)
+some_known (x ∷ xs) place some = by (is_same_place x.job.place place) refl some (some_known xs place)
+  where
+    by : (b : Bool) → is_same_place x.job.place place ≡ b → (is_same_place x.job.place place || list_any (at_job place) (jobs_in xs)) ≡ true
+        → (list_any (at_job place) (jobs_in xs) ≡ true → (m : ℕ) × ((k : KnownJob) × ((m < length xs) × ((k ≡ get_or xs m k) × (is_same_place k.job.place place ≡ true)))))
+        → (m : ℕ) × ((k : KnownJob) × ((m < length (x ∷ xs)) × ((k ≡ get_or (x ∷ xs) m k) × (is_same_place k.job.place place ≡ true))))
+    by true is some rest = (0, (x, (omega arith, (refl, is))))
+    by false is some rest =
+        let found : (m : ℕ) × ((k : KnownJob) × ((m < length xs) × ((k ≡ get_or xs m k) × (is_same_place k.job.place place ≡ true)))) =
+        rest (sym (ap (λ (b : Bool). b || list_any (at_job place) (jobs_in xs)) is) ∙ some) in
+        (suc found.0, (found.1.0, (omega (arith, found.1.1.0), (found.1.1.1.0, found.1.1.1.1))))
+
+-- where it is known nowhere, it has no number
+pub no_number : (known : List KnownJob) (place : JobPlace) → list_any (at_job place) (jobs_in known) ≡ false → IsNumberAt place known None
+no_number known place none = λ n k below at same. absurd (not_both (list_any (at_job place) (jobs_in known)) (any_known known place n k below at same) none)
+
+pub one_number_at : (known : List KnownJob) (place : JobPlace) → AreApart known → (found : Option ℕ) → is_some found ≡ list_any (at_job place) (jobs_in known)
+    → IfSome found (λ m. (m < length known) × ((k : KnownJob) → k ≡ get_or known m k → is_same_place k.job.place place ≡ true)) → IsNumberAt place known found
+one_number_at known place apart None is at = no_number known place (sym is)
+one_number_at known place apart (Some m) is at = λ n k below here same.
+    let other : (t : KnownJob) × (t ≡ get_or known m t) = an_element known m at.0 in
+    let one_place : k.job.place ≡ place = same_place k.job.place place same in
+    let other_place : other.0.job.place ≡ place = same_place other.0.job.place place (at.1 other.0 other.1) in
+    ap Some (sym (apart n m k other.0 below here at.0 other.1 (subst (λ (p : JobPlace). is_same_place k.job.place p ≡ true) (sym other_place) same)))
+
+pub none_apart : (known : List KnownJob) → known ≡ [] → AreApart known
+none_apart known none = λ n m s t below at within there same. let no : length known ≡ 0 = ap length none in absurd (omega (arith, no, below))
+
+pub cut_apart : (known : List KnownJob) (c : ℕ) → AreApart known → AreApart (take c known)
+cut_apart known c apart = λ n m s t below at within there same.
+    apart n m s t (in_whole known c n below) (at ∙ same_in known c n s below) (in_whole known c m within) (there ∙ same_in known c m t within) same
+
+pub pushed_apart : (known : List KnownJob) (one : KnownJob) → list_any (at_job one.job.place) (jobs_in known) ≡ false → AreApart known → AreApart (known ++ one ∷ [])
+pushed_apart known one new apart = λ n m s t below at within there same.
+    ⊎_elim (λ front. ⊎_elim (λ other. apart n m s t front.0 front.1 other.0 other.1 same)
+    (λ last. absurd (not_both (list_any (at_job one.job.place) (jobs_in known)) (any_known known one.job.place n s front.0 front.1 (subst (λ (k : KnownJob). is_same_place s.job.place k.job.place ≡ true) last.1 same)) new))
+    (in_parts known one m t within there))
+    (λ last. ⊎_elim (λ other. absurd (not_both (list_any (at_job one.job.place) (jobs_in known)) (any_known known one.job.place m t other.0 other.1
+    (turned_place s.job.place t.job.place one.job.place (ap (λ (k : KnownJob). k.job.place) last.1) same)) new))
+    (λ also. last.0 ∙ sym also.0) (in_parts known one m t within there))
+    (in_parts known one n s below at)
 
 -- ---- what stays indexed
 

@@ -66,7 +66,7 @@ fn add_job<'a>(
     ensures { Grows known.old entries (met_job (job_of job.entry) ∷ []) known.new
         result }
 {
-    let parents = parents_among(alloc, known.as_slice(), &job.inputs)?;
+    let parents = parents_among(alloc, known, &job.inputs)?;
     let entries = entries.saturating_add(parents.len());
     if entries > MOST_ENTRIES || known.len() >= MOST_VERTICES {
         return Err(UnfoldError::Refused(UnfoldFault::TooManyJobs));
@@ -77,21 +77,19 @@ fn add_job<'a>(
     }
 }
 
-/// The numbers of those jobs that made a File or Directory in the inputs. Where no job made one, no known job is looked at.
+/// The numbers of those jobs that made a File or Directory in the inputs, ascending. Only known jobs at the places of such makers are looked at.
 fn parents_among(
     alloc: Global,
-    known: &[KnownJob<'_>],
+    known: &Known<'_>,
     inputs: &Keyed<Value>,
 ) -> Result<Items<usize>, AllocError>
     ensures { IfOk result (λ parents. parents ≡ parents_from 0 (jobs_in known.now) inputs.now) }
 {
     let makers = Makers::of(alloc, inputs.as_slice())?;
+    let jobs = known.as_slice();
     let mut parents = Items::new(alloc);
-    if makers.is_empty() {
-        return Ok(parents);
-    }
-    for number in 0..known.len() {
-        let one = &known[number];
+    for number in makers.numbers(alloc, known)? {
+        let one = &jobs[number];
         if makers.has(&one.job.place, one.mark()) {
             parents.push(number)?;
         }

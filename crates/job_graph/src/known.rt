@@ -1,8 +1,11 @@
 //! The jobs that are known, in the order in which they came to be known, with an index by the marks of their places.
-ghost use Rattle.std.specs.Prelude.{◌≡◌, ◌++◌, ◌∷◌, [], OnErr, OnOk, drop, is_some, length, take};
+ghost use Rattle.std.specs.Prelude.{◌≡◌, ◌<◌, ◌++◌, ◌∷◌, [], IfSome, OnErr, OnOk, drop, false, get_or, is_some, length, take, true};
 ghost use Rattle.std.specs.List.{list_any};
 ghost use Rattle.job_graph.specs.KnownJobs.{jobs_in};
 ghost use Rattle.job_graph.specs.Unfold.{is_at};
+ghost use Rattle.job_graph.specs.Words.{is_same_place};
+ghost use Rattle.job_graph.specs.declared.growth.KnownJob.{KnownJob};
+ghost use Rattle.job_graph.specs.inner.Index.{IsNumberAt};
 ghost use Rattle.job_graph.specs.inner.Marks.{mark_of};
 
 use crate::growth::KnownJob;
@@ -13,7 +16,7 @@ use std::alloc::{AllocError, Global};
 use std::collections::BTreeMap;
 use std::marker::Model;
 
-/// Known jobs, which contracts see as the list of them.
+/// Known jobs at different places, which contracts see as the list of them.
 #[derive(Drop)]
 pub(crate) struct Known<'a> {
     list: Vec<KnownJob<'a>>,
@@ -33,11 +36,12 @@ impl<'a> Model for Known<'a> {
 
     ghost coded = { Prim.hlevel (codes, tool.the_row.coded, value.the_row.coded) };
 
-    ghost use Rattle.job_graph.specs.inner.Index.{IsIndexed, at_known};
+    ghost use Rattle.job_graph.specs.inner.Index.{AreApart, IsIndexed, at_known};
 
     ghost view = { λ fields. fields.list.items };
 
-    ghost invariant = { λ fields. IsIndexed at_known fields.firsts fields.list.items };
+    ghost invariant = { λ fields. IsIndexed at_known fields.firsts fields.list.items
+        × AreApart fields.list.items };
 }
 
 impl<'a> Known<'a> {
@@ -65,7 +69,9 @@ impl<'a> Known<'a> {
 
     /// The number of the job at a place, where it is known.
     pub(crate) fn number_of(&self, place: &JobPlace) -> Option<usize>
-        ensures { is_some result ≡ list_any (is_at place.now) (jobs_in self.now) }
+        ensures known { is_some result ≡ list_any (is_at place.now) (jobs_in self.now) }
+        ensures within { IfSome result (λ number. number < length self.now) }
+        ensures one { IsNumberAt place.now self.now result }
     {
         let mark = mark_of(place.as_slice());
         match self.firsts.get(&mark) {
@@ -76,6 +82,7 @@ impl<'a> Known<'a> {
 
     /// Adds a job. Out of memory, nothing is added.
     pub(crate) fn push(&mut self, one: KnownJob<'a>) -> Result<(), AllocError>
+        requires { list_any (is_at one.job.place) (jobs_in self.old) ≡ false }
         ensures ok { OnOk result (self.new ≡ self.old ++ one.entry ∷ []) }
         ensures err { OnErr result (self.new ≡ self.old) }
     {
@@ -97,7 +104,10 @@ impl<'a> Known<'a> {
 /// The number of the first job at a place, from a position on. The mark of the place is given too.
 fn number_from(known: &[KnownJob<'_>], first: usize, place: &[Segment], mark: u64) -> Option<usize>
     requires { mark ≡ mark_of place.now }
-    ensures { is_some result ≡ list_any (is_at place.now) (jobs_in (drop first known.now)) }
+    ensures known { is_some result ≡ list_any (is_at place.now) (jobs_in (drop first known.now)) }
+    ensures at { IfSome result (λ number. (number < length known.now)
+        × ((one : KnownJob) → one ≡ get_or known.now number one →
+        is_same_place one.job.place place.now ≡ true)) }
 {
     for number in first..known.len() {
         if known[number].is_at(place, mark) {

@@ -173,7 +173,7 @@ impl<'a> Progress<'a> {
         let place = &resolved.at.place;
         let is_open = is_one_open(self.ended.as_slice(), place, self.known.as_slice());
         self.facts.learned.push(resolved)?;
-        end_last(&mut self.ended, &self.facts.learned, self.known.as_slice());
+        end_last(&mut self.ended, &self.facts.learned, &self.known);
         if is_open {
             return Ok(());
         }

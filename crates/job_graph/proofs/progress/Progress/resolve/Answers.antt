@@ -1,4 +1,4 @@
-use Rattle.std.proofs.Common.{◌∙◌, length, map, ap, sym}
+use Rattle.std.proofs.Common.{◌∙◌, length, map, ap, refl, sym}
 use Rattle.job_graph.specs.inner.Ended.{ended_of}
 use Rattle.job_graph.specs.inner.Views.{resolved_of}
 use Rattle.job_graph.proofs.Flags.{flags_fit, flags_more}
@@ -11,12 +11,12 @@ is_one_open-is_open-requires c =
     ap length c.as_slice.ensures.value ∙ flags_fit c.args.self.now c.as_slice-2.result.now c.requires.ended c.as_slice-2.ensures
 
 pub end_last-requires : goal.end_last-requires
-end_last-requires c = flags_fit c.args.self.now c.as_slice-3.result.now c.requires.ended c.as_slice-3.ensures
+end_last-requires c = flags_fit c.args.self.now c.args.self.now.known c.requires.ended refl
 
 pub look_up-requires : goal.look_up-requires
 look_up-requires c =
     flags_fit c.unfold.new.self c.as_slice-in-Err.result.now
-    (c.unfold.ensures.ended (flags_more c.args.self.now c.args.resolved c.push.new.self c.as_slice-3.result.now c.end_last.new.ended.items c.requires.ended c.in_ok-push.ensures.ok c.as_slice-3.ensures c.end_last.ensures))
+    (c.unfold.ensures.ended (flags_more c.args.self.now c.args.resolved c.push.new.self c.args.self.now.known c.end_last.new.ended.items c.requires.ended c.in_ok-push.ensures.ok refl c.end_last.ensures))
     c.as_slice-in-Err.ensures
 
 pub returns-then-is_open-clause-resolves : goal.returns-then-is_open-clause-resolves
@@ -24,12 +24,12 @@ returns-then-is_open-clause-resolves c =
     λ walks learned knows. knows_open walks learned c.args.self.now c.args.resolved c.push.new.self c.end_last.new.ended c.requires knows c.in_ok-push.ensures.ok
     (opens_are c.args.self.now c.args.resolved.at.place c.as_slice.result.now c.as_slice-2.result.now c.requires.ended c.as_slice.ensures.value c.as_slice-2.ensures
     (sym c.is_one_open-is_open.ensures ∙ c.if-is_open.true))
-    (flags_more c.args.self.now c.args.resolved c.push.new.self c.as_slice-3.result.now c.end_last.new.ended.items c.requires.ended c.in_ok-push.ensures.ok c.as_slice-3.ensures c.end_last.ensures)
+    (flags_more c.args.self.now c.args.resolved c.push.new.self c.args.self.now.known c.end_last.new.ended.items c.requires.ended c.in_ok-push.ensures.ok refl c.end_last.ensures)
 
 pub returns-in-Ok-clause-resolves : goal.returns-in-Ok-clause-resolves
 returns-in-Ok-clause-resolves c =
     λ walks learned knows. knows_more walks learned c.args.self.now c.unfold.new.self c.args.resolved c.push.new.self c.end_last.new.ended c.requires knows c.in_ok-push.ensures.ok
-    (flags_more c.args.self.now c.args.resolved c.push.new.self c.as_slice-3.result.now c.end_last.new.ended.items c.requires.ended c.in_ok-push.ensures.ok c.as_slice-3.ensures c.end_last.ensures)
+    (flags_more c.args.self.now c.args.resolved c.push.new.self c.args.self.now.known c.end_last.new.ended.items c.requires.ended c.in_ok-push.ensures.ok refl c.end_last.ensures)
     c.in-Ok.ensures
 
 pub returns-in-Err-clause-resolves : goal.returns-in-Err-clause-resolves
