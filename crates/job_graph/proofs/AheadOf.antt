@@ -56,7 +56,7 @@ module _ (old : Progress) (resolved : KeptResolved) (more : List KeptResolved) (
     places : map resolved_of more ≡ learned ++ one ∷ []
     places = ap (map resolved_of) is ∙ map-append resolved_of old.facts.learned (resolved ∷ [])
 
-    seen_met : (m : Met) → IsIn m (walk_in old).met → IsKnownMet (jobs_in old.known.items) m
+    seen_met : (m : Met) → IsIn m (walk_in old).met → IsKnownMet (jobs_in old.known) m
     seen_met (met_job job) at =
         ap (λ (jobs : List Job). is_known jobs job) stands.jobs
         ∙ met_known old.process.now old.fields old.facts.measures stands.apart learned one job (among (met_job job) (walk_in old).met at)
@@ -64,11 +64,11 @@ module _ (old : Progress) (resolved : KeptResolved) (more : List KeptResolved) (
         none_met walks place cause (reverse learned) stands.fault
         (subst (IsAmong (met_fault place cause)) (sym (in_order old.process.now old.fields old.facts.measures learned)) (among (met_fault place cause) (walk_in old).met at))
 
-    seen_by : (kept : Option Kept) (m : Met) → IsIn m (met_by (facts_with old.facts more) old.fields old.process.now kept) → IsKnownMet (jobs_in old.known.items) m
+    seen_by : (kept : Option Kept) (m : Met) → IsIn m (met_by (facts_with old.facts more) old.fields old.process.now kept) → IsKnownMet (jobs_in old.known) m
     seen_by None m at = absurd at
     seen_by (Some kept) m at = seen_met m (subst (λ (facts : Facts). IsIn m (root_walk facts old.fields old.process.now).met) before_is at)
 
-    met_again : (job : Job) → IsIn job (jobs_in old.known.items) → IsIn (met_job job) (walk_in new).met
+    met_again : (job : Job) → IsIn job (jobs_in old.known) → IsIn (met_job job) (walk_in new).met
     met_again job at =
         let known : IsAmong (met_job job) (walks (made_by learned)).met =
         one_of (λ (job : Job). IsAmong (met_job job) (walks (made_by learned)).met) (unfolded walks learned).jobs (known_met old.process.now old.fields old.facts.measures learned) job
@@ -82,7 +82,7 @@ module _ (old : Progress) (resolved : KeptResolved) (more : List KeptResolved) (
     ahead = record { seen = seen_by old.kept; met = met_again }
 
     -- where a job beside it is open
-    pub kept_open : is_one_open learned one.place (jobs_in old.known.items) ≡ true → KeepsRoot (facts_with old.facts more) old.fields old.process.now old.kept
+    pub kept_open : is_one_open learned one.place (jobs_in old.known) ≡ true → KeepsRoot (facts_with old.facts more) old.fields old.process.now old.kept
     kept_open open_one =
         let waits : HasOpen old.process.now old.fields old.facts.measures stands.apart learned one =
         has_open old.process.now old.fields old.facts.measures stands.apart learned one

@@ -75,14 +75,14 @@ module _ (one : Resolved) (old new : Progress) where
       same_seen stands same learns.1 (seen old).refused (ap (λ (found : Option UnfoldFault). option_map fault_of found) learns.0)
 
 -- the known jobs come first
-pub front_seen : (old new : Progress) (result : Result (Unit {0}) UnfoldError) → OnOk result (take (length old.known.items) new.known.items ≡ old.known.items) →
+pub front_seen : (old new : Progress) (result : Result (Unit {0}) UnfoldError) → OnOk result (take (length old.known) new.known ≡ old.known) →
     OnOk result (take (length (seen old).known) (seen new).known ≡ (seen old).known)
 front_seen old new (Ok done) front =
-    ap (λ (n : ℕ). take n (jobs_in new.known.items)) (length-map old.known.items (λ (k : KnownJob). job_of k.job))
-    ∙ take-map (λ (k : KnownJob). job_of k.job) (length old.known.items) new.known.items ∙ ap jobs_in front
+    ap (λ (n : ℕ). take n (jobs_in new.known)) (length-map old.known (λ (k : KnownJob). job_of k.job))
+    ∙ take-map (λ (k : KnownJob). job_of k.job) (length old.known) new.known ∙ ap jobs_in front
 front_seen old new (Err error) front = tt
 
-pub parents_seen : (held : Progress) → Stands held → map known_of held.known.items ≡ known_from [] (seen held).known
+pub parents_seen : (held : Progress) → Stands held → map known_of held.known ≡ known_from [] (seen held).known
 parents_seen held stands = stands.parents ∙ ap (known_from []) (sym stands.jobs)
 
 pub refused_none : {T : Type 0} (held : Progress) (result : Result T UnfoldError) → OnOk result (held.fault ≡ None) → OnOk result ((seen held).refused ≡ None)

@@ -3,6 +3,7 @@ mod Ahead
 mod AheadOf
 mod Flags
 pub mod Graphs
+mod Gathering
 mod Going
 mod GoingOn
 mod Gone

@@ -42,10 +42,10 @@ opens_by learned place [] = refl
 opens_by learned place (k ∷ ks) = ap₂ (λ (a b : Bool). a || b) (and_comm (not (has_ended learned k)) (is_beside place k.job.place)) (opens_by learned place ks)
 
 -- of an unfolding, where its flags and jobs are lent
-pub opens_are : (held : Progress) (place : JobPlace) (ended : List Bool) (known : List KnownJob) → IsFlagged held → ended ≡ held.ended.items → known ≡ held.known.items →
-    list_any (open_by place) (zip ended known) ≡ true → is_one_open (map resolved_of held.facts.learned) place (jobs_in held.known.items) ≡ true
+pub opens_are : (held : Progress) (place : JobPlace) (ended : List Bool) (known : List KnownJob) → IsFlagged held → ended ≡ held.ended.items → known ≡ held.known →
+    list_any (open_by place) (zip ended known) ≡ true → is_one_open (map resolved_of held.facts.learned) place (jobs_in held.known) ≡ true
 opens_are held place ended known flagged ended_are known_are found =
-    sym (opens_by (map resolved_of held.facts.learned) place held.known.items)
+    sym (opens_by (map resolved_of held.facts.learned) place held.known)
     ∙ sym (ap₂ (λ (fs : List Bool) (ks : List KnownJob). list_any (open_by place) (zip fs ks)) (ended_are ∙ flagged) known_are)
     ∙ found
 

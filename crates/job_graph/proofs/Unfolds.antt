@@ -63,13 +63,13 @@ walk_is walks learned held walker places =
 
 -- what is known after one walk, where these jobs were known
 pub knows_after : (walks : Walker) (past : List Job) (learned : List Resolved) (held new : Progress) →
-    walks_in held ≡ walks → map resolved_of held.facts.learned ≡ learned → jobs_in held.known.items ≡ past → AreCounted held.known.items held.entries →
+    walks_in held ≡ walks → map resolved_of held.facts.learned ≡ learned → jobs_in held.known ≡ past → AreCounted held.known held.entries →
     (unfolded walks learned).jobs ≡ with_met past (walks (made_by learned)).met → (unfolded walks learned).fault ≡ first_fault past (walks (made_by learned)).met →
     ids_differ held.process.now ≡ true → IsAhead held → IsFlagged held → Unfolds held new (Ok tt) → Follows walks learned new
 knows_after walks past learned held new walker places known counted all fault apart ahead flagged unfolds =
     let found : UnfoldsTo held new (Ok tt) = unfolds.unfolds ahead counted in
     let walk : walk_in held ≡ walks (made_by learned) = walk_is walks learned held walker places in
-    let jobs : jobs_in new.known.items ≡ (unfolded walks learned).jobs =
+    let jobs : jobs_in new.known ≡ (unfolded walks learned).jobs =
     found.grown.0 ∙ ap (λ (jobs : List Job). with_met jobs (walk_in held).met) known ∙ ap (λ (w : Walk). with_met past w.met) walk ∙ sym all in
     record {
       walker = same_walks held new unfolds.same ∙ walker;
@@ -86,12 +86,12 @@ knows_after walks past learned held new walker places known counted all fault ap
     }
 
 pub blames_after : (walks : Walker) (past : List Job) (learned : List Resolved) (held new : Progress) (error : UnfoldError) →
-    walks_in held ≡ walks → map resolved_of held.facts.learned ≡ learned → jobs_in held.known.items ≡ past → AreCounted held.known.items held.entries →
+    walks_in held ≡ walks → map resolved_of held.facts.learned ≡ learned → jobs_in held.known ≡ past → AreCounted held.known held.entries →
     (unfolded walks learned).fault ≡ first_fault past (walks (made_by learned)).met →
     IsAhead held → Unfolds held new (Err error) → Blames (unfolded walks learned).fault error
 blames_after walks past learned held new error walker places known counted fault ahead unfolds =
     let walk : walk_in held ≡ walks (made_by learned) = walk_is walks learned held walker places in
-    let same : first_fault (jobs_in held.known.items) (walk_in held).met ≡ (unfolded walks learned).fault =
+    let same : first_fault (jobs_in held.known) (walk_in held).met ≡ (unfolded walks learned).fault =
     ap (λ (jobs : List Job). first_fault jobs (walk_in held).met) known ∙ ap (λ (w : Walk). first_fault past w.met) walk ∙ sym fault in
     subst (λ (found : Option Fault). Blames found error) same (unfolds.unfolds ahead counted)
 
@@ -103,25 +103,25 @@ none_counted known entries none zero = record {
   count = zero ∙ sym (ap (λ (before : List KnownJob). entries_from 0 [] (jobs_in before)) none);
 }
 
-none_ahead : (held : Progress) → held.known.items ≡ [] → held.kept ≡ None → IsAhead held
+none_ahead : (held : Progress) → held.known ≡ [] → held.kept ≡ None → IsAhead held
 none_ahead held known kept = record {
   seen = λ m at. absurd (subst (λ (k : Option Kept). IsIn m (met_by held.facts held.fields held.process.now k)) kept at);
   met = λ job at. absurd (subst (λ (k : List KnownJob). IsIn job (jobs_in k)) known at);
 }
 
-pub knows_first : (walks : Walker) (held new : Progress) → walks_in held ≡ walks → held.facts.learned ≡ [] → held.known.items ≡ [] → held.entries ≡ 0 →
+pub knows_first : (walks : Walker) (held new : Progress) → walks_in held ≡ walks → held.facts.learned ≡ [] → held.known ≡ [] → held.entries ≡ 0 →
     held.ended.items ≡ [] → held.kept ≡ None → ids_differ held.process.now ≡ true → Unfolds held new (Ok tt) → Follows walks [] new
 knows_first walks held new walker learned known entries ended kept apart unfolds =
-    knows_after walks [] [] held new walker (ap (map resolved_of) learned) (ap jobs_in known) (none_counted held.known.items held.entries known entries) refl refl apart (none_ahead held known kept) (no_flags held known ended) unfolds
+    knows_after walks [] [] held new walker (ap (map resolved_of) learned) (ap jobs_in known) (none_counted held.known held.entries known entries) refl refl apart (none_ahead held known kept) (no_flags held known ended) unfolds
 
-pub blames_first : (walks : Walker) (held new : Progress) (error : UnfoldError) → walks_in held ≡ walks → held.facts.learned ≡ [] → held.known.items ≡ [] → held.entries ≡ 0 →
+pub blames_first : (walks : Walker) (held new : Progress) (error : UnfoldError) → walks_in held ≡ walks → held.facts.learned ≡ [] → held.known ≡ [] → held.entries ≡ 0 →
     held.kept ≡ None → Unfolds held new (Err error) → Blames (unfolded walks []).fault error
 blames_first walks held new error walker learned known entries kept unfolds =
-    blames_after walks [] [] held new error walker (ap (map resolved_of) learned) (ap jobs_in known) (none_counted held.known.items held.entries known entries) refl (none_ahead held known kept) unfolds
+    blames_after walks [] [] held new error walker (ap (map resolved_of) learned) (ap jobs_in known) (none_counted held.known held.entries known entries) refl (none_ahead held known kept) unfolds
 
 -- once one more place is learned
 
-is_counted : (walks : Walker) (learned : List Resolved) (old : Progress) → Follows walks learned old → AreCounted old.known.items old.entries
+is_counted : (walks : Walker) (learned : List Resolved) (old : Progress) → Follows walks learned old → AreCounted old.known old.entries
 is_counted walks learned old knows =
     record { parents = knows.parents ∙ ap (known_from []) (sym knows.jobs); count = knows.entries ∙ ap (entries_from 0 []) (sym knows.jobs) }
 
@@ -135,7 +135,7 @@ module _ (old : Progress) (resolved : KeptResolved) (more : List KeptResolved) (
   is_ahead = record { seen = (ahead old resolved more is stands).seen; met = (ahead old resolved more is stands).met }
 
 pub knows_more : (walks : Walker) (learned : List Resolved) (old new : Progress) (resolved : KeptResolved) (more : List KeptResolved) (flags : Vec Bool) → Stands old → Follows walks learned old →
-    more ≡ old.facts.learned ++ resolved ∷ [] → flags.items ≡ ended_of (map resolved_of more) old.known.items → Unfolds (with_learned old more flags) new (Ok tt) →
+    more ≡ old.facts.learned ++ resolved ∷ [] → flags.items ≡ ended_of (map resolved_of more) old.known → Unfolds (with_learned old more flags) new (Ok tt) →
     Follows walks (learned ++ resolved_of resolved ∷ []) new
 knows_more walks learned old new resolved more flags stands knows is flagged unfolds =
     knows_after walks (unfolded walks learned).jobs (learned ++ resolved_of resolved ∷ []) (with_learned old more flags) new
@@ -150,7 +150,7 @@ blames_more walks learned old new resolved more flags error stands knows is unfo
     (more_fault walks learned (resolved_of resolved) knows.fault) (is_ahead old resolved more flags is stands) unfolds
 
 pub knows_still : (walks : Walker) (learned : List Resolved) (old new : Progress) (more less : List KeptResolved) (flags later : Vec Bool) (error : UnfoldError) → Follows walks learned old →
-    less ≡ old.facts.learned → later.items ≡ ended_of (map resolved_of less) new.known.items → Unfolds (with_learned old more flags) new (Err error) →
+    less ≡ old.facts.learned → later.items ≡ ended_of (map resolved_of less) new.known → Unfolds (with_learned old more flags) new (Err error) →
     Follows walks learned (with_learned new less later)
 knows_still walks learned old new more less flags later error knows is flagged unfolds = record {
   walker = same_walks (with_learned old more flags) new unfolds.same ∙ knows.walker;
@@ -170,7 +170,7 @@ knows_still walks learned old new more less flags later error knows is flagged u
 
 still_knows : (walks : Walker) (learned : List Resolved) (old : Progress) (one : Resolved) (more : List KeptResolved) (flags : Vec Bool) → map resolved_of more ≡ learned ++ one ∷ [] →
     Follows walks learned old → unfolded walks (learned ++ one ∷ []) ≡ unfolded walks learned →
-    KeepsRoot (record old.facts { learned = more }) old.fields old.process.now old.kept → flags.items ≡ ended_of (map resolved_of more) old.known.items →
+    KeepsRoot (record old.facts { learned = more }) old.fields old.process.now old.kept → flags.items ≡ ended_of (map resolved_of more) old.known →
     Follows walks (learned ++ one ∷ []) (with_learned old more flags)
 still_knows walks learned old one more flags places knows same kept flagged = record {
   walker = knows.walker;
@@ -188,13 +188,13 @@ still_knows walks learned old one more flags places knows same kept flagged = re
 
 pub knows_open : (walks : Walker) (learned : List Resolved) (old : Progress) (resolved : KeptResolved) (more : List KeptResolved) (flags : Vec Bool) → Stands old → Follows walks learned old →
     more ≡ old.facts.learned ++ resolved ∷ [] →
-    is_one_open (map resolved_of old.facts.learned) (resolved_of resolved).place (jobs_in old.known.items) ≡ true →
-    flags.items ≡ ended_of (map resolved_of more) old.known.items → Follows walks (learned ++ resolved_of resolved ∷ []) (with_learned old more flags)
+    is_one_open (map resolved_of old.facts.learned) (resolved_of resolved).place (jobs_in old.known) ≡ true →
+    flags.items ≡ ended_of (map resolved_of more) old.known → Follows walks (learned ++ resolved_of resolved ∷ []) (with_learned old more flags)
 knows_open walks learned old resolved more flags stands knows is waits flagged =
     let one : Resolved = resolved_of resolved in
     let through : walks_in old ≡ walks = knows.walker in
     let here : is_one_open learned one.place (unfolded (walks_in old) learned).jobs ≡ true =
-    sym (ap (λ (found : List Resolved). is_one_open found one.place (jobs_in old.known.items)) knows.places
+    sym (ap (λ (found : List Resolved). is_one_open found one.place (jobs_in old.known)) knows.places
     ∙ ap (λ (jobs : List Job). is_one_open learned one.place jobs) (knows.jobs ∙ ap (λ (w : Walker). (unfolded w learned).jobs) (sym through))) ∙ waits in
     let none : (unfolded (walks_in old) learned).fault ≡ None = ap (λ (w : Walker). (unfolded w learned).fault) through ∙ knows.fault in
     subst (λ (w : Walker). Follows w (learned ++ one ∷ []) (with_learned old more flags)) through

@@ -4,15 +4,15 @@ ghost use Rattle.std.specs.List.{zip};
 ghost use Rattle.job_graph.specs.declared.made.Resolved.{Resolved as KeptResolved};
 ghost use Rattle.job_graph.specs.inner.Ended.{ended_after, ended_of, has_ended};
 ghost use Rattle.job_graph.specs.inner.Growth.{Grows};
-ghost use Rattle.job_graph.specs.inner.Marks.{mark_of};
 ghost use Rattle.job_graph.specs.inner.Views.{met_of, resolved_of};
 
 use crate::fault::UnfoldError;
 use crate::growing::grow;
 use crate::growth::KnownJob;
+use crate::known::Known;
 use crate::learned::Learned;
 use crate::walk::Met;
-use cwl_value::Segment;
+use cwl_value::JobPlace;
 use plain_data::Items;
 use std::alloc::{AllocError, Global};
 
@@ -20,15 +20,15 @@ use std::alloc::{AllocError, Global};
 pub(crate) fn grow_flagged<'a>(
     alloc: Global,
     learned: &Learned,
-    known: &mut Vec<KnownJob<'a>>,
+    known: &mut Known<'a>,
     ended: &mut Vec<bool>,
     entries: usize,
     met: Items<Met<'a>>,
 ) -> Result<usize, UnfoldError>
-    ensures grows { Grows known.old.items entries (map met_of met.entry) known.new.items result }
+    ensures grows { Grows known.old entries (map met_of met.entry) known.new result }
     ensures ended { OnOk result (ended.new.items ≡ ended.old.items
         ++ ended_of (map resolved_of learned.now)
-        (drop (length ended.old.items) known.new.items)) }
+        (drop (length ended.old.items) known.new)) }
     ensures front { OnErr result (take (length ended.old.items) ended.new.items
         ≡ ended.old.items) }
 {
@@ -64,8 +64,8 @@ fn has_ended(learned: &Learned, known: &KnownJob<'_>) -> bool
     learned.outputs_at(&known.job.place).is_some()
 }
 
-/// Sets the flags of the jobs at the place that was learned last. Marks are compared, and none is looked up.
-pub(crate) fn end_last(ended: &mut Vec<bool>, learned: &Learned, known: &[KnownJob<'_>])
+/// Sets the flag of the job at the place that was learned last, if it is known.
+pub(crate) fn end_last(ended: &mut Vec<bool>, learned: &Learned, known: &Known<'_>)
     requires { length ended.old.items ≡ length known.now }
     ensures { (before : List KeptResolved) (one : KeptResolved)
         → learned.now ≡ before ++ one ∷ []
@@ -74,26 +74,18 @@ pub(crate) fn end_last(ended: &mut Vec<bool>, learned: &Learned, known: &[KnownJ
 {
     match learned.last() {
         None => (),
-        Some(last) => end_at(ended, known, last.at.place.as_slice(), last.at.mark()),
+        Some(last) => end_at(ended, known, &last.at.place),
     }
 }
 
-/// Sets the flags of the jobs at a place, whose mark is given too.
-fn end_at(ended: &mut Vec<bool>, known: &[KnownJob<'_>], place: &[Segment], mark: u64)
-    requires long { length ended.old.items ≡ length known.now }
-    requires mark { mark ≡ mark_of place.now }
+/// Sets the flag of the job at a place.
+fn end_at(ended: &mut Vec<bool>, known: &Known<'_>, place: &JobPlace)
+    requires { length ended.old.items ≡ length known.now }
     ensures { ended.new.items ≡ map (ended_after place.now) (zip ended.old.items known.now) }
 {
-    for number in 0..known.len() {
-        ended[number] = is_ended(ended[number], &known[number], place, mark);
+    if let Some(number) = known.number_of(place) {
+        ended[number] = true;
     }
-}
-
-fn is_ended(had_ended: bool, known: &KnownJob<'_>, place: &[Segment], mark: u64) -> bool
-    requires { mark ≡ mark_of place.now }
-    ensures { result ≡ ended_after place.now (had_ended, known.now) }
-{
-    had_ended || known.is_at(place, mark)
 }
 
 /// Looks up anew which of the jobs have ended. Needs no memory.

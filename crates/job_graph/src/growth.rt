@@ -1,4 +1,4 @@
-//! Jobs that are known.
+//! A job that is known.
 ghost use Rattle.std.specs.Prelude.{◌≡◌};
 ghost use Rattle.job_graph.specs.Words.{is_same_place};
 ghost use Rattle.job_graph.specs.inner.Marks.{mark_of};

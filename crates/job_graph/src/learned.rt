@@ -35,11 +35,11 @@ impl Model for Learned {
 
     ghost coded = { Prim.hlevel (codes, value.the_row.coded) };
 
-    ghost use Rattle.job_graph.specs.inner.Index.{IsIndexed};
+    ghost use Rattle.job_graph.specs.inner.Index.{IsIndexed, at_learned};
 
     ghost view = { λ fields. fields.list };
 
-    ghost invariant = { λ fields. IsIndexed fields.firsts fields.list };
+    ghost invariant = { λ fields. IsIndexed at_learned fields.firsts fields.list };
 }
 
 impl Learned {
@@ -98,8 +98,8 @@ impl Learned {
     }
 }
 
-/// A position before which no place of the mark was learned: the index's, or the end.
-fn first_of(firsts: &BTreeMap<u64, usize>, mark: u64, end: usize) -> usize
+/// A position before which no place of the mark is: the index's, or the end.
+pub(crate) fn first_of(firsts: &BTreeMap<u64, usize>, mark: u64, end: usize) -> usize
     ensures { IsFirst (get nat_cmp firsts.now mark) end result }
 {
     match firsts.get(&mark) {

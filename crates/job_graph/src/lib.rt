@@ -22,6 +22,7 @@ mod held;
 mod ids;
 mod inputs;
 mod kept;
+mod known;
 mod laws;
 mod learned;
 mod links;

@@ -5,15 +5,16 @@ ghost use Rattle.plain_data.specs.ByName.{map_values};
 ghost use Rattle.job_graph.specs.Words.{JobPlace, is_same_place};
 ghost use Rattle.cwl_value.specs.Fileless.{some_true};
 ghost use Rattle.job_graph.specs.Made.{any_made, dir_holds, file_holds, holds_made, is_of};
-ghost use Rattle.job_graph.specs.inner.Makers.{is_noted, is_this};
+ghost use Rattle.job_graph.specs.inner.Makers.{Gathers, Puts, is_noted, is_this};
 ghost use Rattle.job_graph.specs.inner.Marks.{mark_of};
 
+use crate::known::Known;
 use crate::mark::mark_of;
 use crate::place::is_same_place;
 use cwl_value::{DirVal, FileVal, JobPlace, Place, Value};
 use plain_data::{Keyed, Text};
 use std::alloc::{AllocError, Global};
-use std::collections::BTreeMap;
+use std::collections::{BTreeMap, BTreeSet};
 use std::marker::Model;
 
 /// Named values, which contracts see as the list of them, with the jobs that made what is in them.
@@ -62,6 +63,17 @@ impl<'v> Makers<'v> {
     {
         self.noted.has(job, mark)
     }
+
+    /// The numbers of all known jobs that made one, and maybe of others, in ascending order.
+    pub(crate) fn numbers(
+        &self,
+        alloc: Global,
+        known: &Known<'_>,
+    ) -> Result<BTreeSet<usize>, AllocError>
+        ensures { IfOk result (Gathers (λ job. any_made job self.now) known.now) }
+    {
+        self.noted.numbers(alloc, known)
+    }
 }
 
 /// Places of jobs, by their marks.
@@ -100,6 +112,17 @@ impl<'v> Noted<'v> {
         self.is_other(job)
     }
 
+    fn numbers(&self, alloc: Global, known: &Known<'_>) -> Result<BTreeSet<usize>, AllocError>
+        ensures { IfOk result (Gathers (λ job. is_noted job self.now) known.now) }
+    {
+        let mut numbers = BTreeSet::new(alloc);
+        for place in self.by_mark.values() {
+            put_number(&mut numbers, known, place)?;
+        }
+        put_numbers(&mut numbers, known, self.others.as_slice())?;
+        Ok(numbers)
+    }
+
     fn is_other(&self, job: &JobPlace) -> bool
         ensures { result ≡ list_any (is_this job.now) self.now.others.items }
     {
@@ -128,6 +151,34 @@ impl<'v> Noted<'v> {
         }
         Ok(())
     }
+}
+
+/// Puts the numbers of the known jobs at these places.
+fn put_numbers(
+    numbers: &mut BTreeSet<usize>,
+    known: &Known<'_>,
+    places: &[&JobPlace],
+) -> Result<(), AllocError>
+    ensures { OnOk result (Puts (λ job. list_any (is_this job) places.now) known.now numbers.old
+        numbers.new) }
+{
+    for place in places {
+        put_number(numbers, known, place)?;
+    }
+    Ok(())
+}
+
+fn put_number(
+    numbers: &mut BTreeSet<usize>,
+    known: &Known<'_>,
+    place: &JobPlace,
+) -> Result<(), AllocError>
+    ensures { OnOk result (Puts (is_same_place place.now) known.now numbers.old numbers.new) }
+{
+    if let Some(number) = known.number_of(place) {
+        numbers.insert(number)?;
+    }
+    Ok(())
 }
 
 fn noted_in<'v>(alloc: Global, fields: &'v [(Text, Value)]) -> Result<Noted<'v>, AllocError>

@@ -16,10 +16,10 @@ ghost use Rattle.job_graph.specs.inner.Views.{resolved_of};
 use crate::costs::Costs;
 use crate::ended::{end_last, grow_flagged, look_up};
 use crate::fault::{UnfoldError, UnfoldFault};
-use crate::growth::KnownJob;
 use crate::ids::see_ids;
 use crate::inputs::root_fields;
 use crate::kept::{Kept, Rooted, walk_from_root};
+use crate::known::Known;
 use crate::learned::Learned;
 use crate::made::{Facts, Resolved};
 use crate::open::is_one_open;
@@ -42,7 +42,7 @@ pub(crate) struct Progress<'a> {
     /// What is handed to the process.
     fields: Keyed<Value>,
     facts: Facts,
-    pub known: Vec<KnownJob<'a>>,
+    pub known: Known<'a>,
     /// For each known job, whether it has ended: whether its outputs were learned.
     ended: Vec<bool>,
     /// How many parents the known jobs have in all.
@@ -76,7 +76,7 @@ impl<'a> Progress<'a> {
                 measures,
                 learned: Learned::new(alloc),
             },
-            known: Vec::new(alloc),
+            known: Known::new(alloc),
             ended: Vec::new(alloc),
             entries: 0,
             fault: None,
@@ -96,8 +96,8 @@ impl<'a> Progress<'a> {
             → Follows walks learned self.old →
             LearnsIn walks learned (resolved_of resolved) self.old self.new result }
         ensures same { IsOfOneProcess self.old self.new }
-        ensures ok { OnOk result (take (length self.old.known.items) self.new.known.items
-            ≡ self.old.known.items) }
+        ensures ok { OnOk result (take (length self.old.known) self.new.known
+            ≡ self.old.known) }
     {
         if let Some(fault) = &self.fault {
             return Err(UnfoldError::Refused(fault.clone_in(self.alloc)?));
@@ -122,7 +122,7 @@ impl<'a> Progress<'a> {
     /// The known jobs with these costs, as a planner takes them, or the fault that was met.
     pub(crate) fn graph(&self, costs: &[Costs]) -> Result<Graph, UnfoldError>
         requires stands { Stands self.now }
-        requires each { length costs.now ≡ length self.now.known.items }
+        requires each { length costs.now ≡ length self.now.known }
         requires within { All AreWithin costs.now }
         ensures ok { IfOk result (λ graph. graph
             ≡ present_job_graph (seen self.now).learned (seen self.now).known (seen self.now).outs
@@ -167,13 +167,13 @@ impl<'a> Progress<'a> {
             Resolves walks learned (resolved_of resolved) self.new result }
         ensures same { IsOfOneProcess self.old self.new }
         ensures kept { self.new.fault ≡ self.old.fault }
-        ensures ok { OnOk result (take (length self.old.known.items) self.new.known.items
-            ≡ self.old.known.items) }
+        ensures ok { OnOk result (take (length self.old.known) self.new.known
+            ≡ self.old.known) }
     {
         let place = &resolved.at.place;
         let is_open = is_one_open(self.ended.as_slice(), place, self.known.as_slice());
         self.facts.learned.push(resolved)?;
-        end_last(&mut self.ended, &self.facts.learned, self.known.as_slice());
+        end_last(&mut self.ended, &self.facts.learned, &self.known);
         if is_open {
             return Ok(());
         }

@@ -46,36 +46,36 @@ IsKnownMet jobs (met_fault place cause) = ⊥
 
 -- what is known stays
 pub record IsAlike (old new : Progress) : Type 0 where
-  pub jobs : new.known.items ≡ old.known.items
+  pub jobs : new.known ≡ old.known
   pub entries : new.entries ≡ old.entries
   pub outputs : new.outputs ≡ old.outputs
   pub ended : new.ended.items ≡ old.ended.items
 
 -- once its walk was made
 pub record IsWalked (old new : Progress) : Type 0 where
-  pub grown : GrowsTo old.known.items (walk_in old).met new.known.items (Ok new.entries)
+  pub grown : GrowsTo old.known (walk_in old).met new.known (Ok new.entries)
   pub result : result_of new.outputs ≡ result_in (made_from old.facts) (walk_in old)
   pub outs : new.outputs.named.items ≡ those_named (walk_in old).outs
 
 -- where these are known, each that was met of which something is kept is one of them, and each of them is met
 pub record IsAhead (held : Progress) : Type 0 where
-  pub seen : (m : Met) → IsIn m (met_by held.facts held.fields held.process.now held.kept) → IsKnownMet (jobs_in held.known.items) m
-  pub met : (job : Job) → IsIn job (jobs_in held.known.items) → IsIn (met_job job) (walk_in held).met
+  pub seen : (m : Met) → IsIn m (met_by held.facts held.fields held.process.now held.kept) → IsKnownMet (jobs_in held.known) m
+  pub met : (job : Job) → IsIn job (jobs_in held.known) → IsIn (met_job job) (walk_in held).met
 
 abbrev pub UnfoldsTo : Progress → Progress → Result (Unit {0}) UnfoldError → Type 0
 UnfoldsTo old new (Ok done) = IsWalked old new
-UnfoldsTo old new (Err error) = Blames (first_fault (jobs_in old.known.items) (walk_in old).met) error
+UnfoldsTo old new (Err error) = Blames (first_fault (jobs_in old.known) (walk_in old).met) error
 
 pub record Unfolds (old new : Progress) (result : Result (Unit {0}) UnfoldError) : Type 0 where
   pub same : IsOfOneProcess old new
   pub learned : new.facts.learned ≡ old.facts.learned
   pub kept : new.fault ≡ old.fault
-  pub front : take (length old.known.items) new.known.items ≡ old.known.items
+  pub front : take (length old.known) new.known ≡ old.known
   pub alike : OnErr result (IsAlike old new)
   pub root : OnOk result (KeepsRoot new.facts new.fields new.process.now new.kept)
   pub none : OnErr result (new.kept ≡ None)
   pub ended : IsFlagged old → IsFlagged new
-  pub unfolds : IsAhead old → AreCounted old.known.items old.entries → UnfoldsTo old new result
+  pub unfolds : IsAhead old → AreCounted old.known old.entries → UnfoldsTo old new result
 
 -- one more place is learned, or nothing changes
 abbrev pub Resolves : Walker → List Resolved → Resolved → Progress → Result (Unit {0}) UnfoldError → Type 0

@@ -16,7 +16,7 @@ abbrev pub seen : Progress → UnfoldedSoFar
 seen held = record {
   task = record { process = held.process.now; handed = held.fields; measures = held.facts.measures };
   learned = map resolved_of held.facts.learned;
-  known = jobs_in held.known.items;
+  known = jobs_in held.known;
   result = result_of held.outputs;
   outs = held.outputs.named.items;
   refused = option_map fault_of held.fault;
@@ -28,14 +28,14 @@ walks_in held = walks_of (seen held)
 
 -- its flags say which of its jobs have ended
 abbrev pub IsFlagged : Progress → Type 0
-IsFlagged held = held.ended.items ≡ ended_of (map resolved_of held.facts.learned) held.known.items
+IsFlagged held = held.ended.items ≡ ended_of (map resolved_of held.facts.learned) held.known
 
 -- its jobs, their parents and outputs are what these places unfold, learned in this order, and no equation fails
 pub record Follows (walks : Walker) (learned : List Resolved) (held : Progress) : Type 0 where
   pub walker : walks_in held ≡ walks
   pub places : map resolved_of held.facts.learned ≡ learned
-  pub jobs : jobs_in held.known.items ≡ (unfolded walks learned).jobs
-  pub parents : map known_of held.known.items ≡ known_from [] (unfolded walks learned).jobs
+  pub jobs : jobs_in held.known ≡ (unfolded walks learned).jobs
+  pub parents : map known_of held.known ≡ known_from [] (unfolded walks learned).jobs
   pub entries : held.entries ≡ entries_from 0 [] (unfolded walks learned).jobs
   pub fault : (unfolded walks learned).fault ≡ None
   pub result : result_of held.outputs ≡ (unfolded walks learned).result

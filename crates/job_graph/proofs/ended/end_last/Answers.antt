@@ -1,7 +1,3 @@
-use Rattle.std.proofs.Common.{◌∙◌, ap, map}
-use Rattle.std.specs.List.{zip}
-use Rattle.job_graph.specs.Words.{JobPlace}
-use Rattle.job_graph.specs.inner.Ended.{ended_after}
 use Rattle.job_graph.proofs.Flags.{flags_last, flags_none}
 use Rattle.job_graph.proofs.ended.end_last.Goals as goal
 
@@ -11,4 +7,4 @@ returns-in-None c = flags_none c.args.learned.now c.args.known.now c.args.ended.
 pub returns-in-Some : goal.returns-in-Some
 returns-in-Some c =
     flags_last c.args.learned.now c.args.known.now c.args.ended.now.items c.end_at.new.ended.items c.in-Some.ensures.0 c.in-Some.last.now c.in-Some.ensures.1
-    (c.end_at.ensures ∙ ap (λ (place : JobPlace). map (ended_after place) (zip c.args.ended.now.items c.args.known.now)) c.as_slice.ensures)
+    c.end_at.ensures

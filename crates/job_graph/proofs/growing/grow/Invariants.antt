@@ -7,5 +7,5 @@ use Rattle.job_graph.proofs.growing.grow.Given as goal
 abbrev pub invariant-loop-one : goal.invariant-loop-one
 invariant-loop-one l = record {
   whole : l.fn.met ≡ l.yielded ++ into_iter_items l.one-iterator;
-  grows : Grows l.fn.known.items l.fn.entries (map met_of l.yielded) l.known.items (Ok l.entries);
+  grows : Grows l.fn.known l.fn.entries (map met_of l.yielded) l.known (Ok l.entries);
 }

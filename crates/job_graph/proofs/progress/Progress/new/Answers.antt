@@ -9,4 +9,4 @@ pub returns-in-Ok-clause-ok : goal.returns-in-Ok-clause-ok
 returns-in-Ok-clause-ok c =
     knows_first (walker c.args.process.now c.args.inputs.now c.args.measures) _ c.unfold.new.self
     (ap (λ (fields : Fields). λ (made : Made). meaning_of c.args.measures made c.args.process.now [] fields) c.in_ok-fields.ensures)
-    c.new.ensures c.new-2.ensures.items refl c.new-3.ensures.items refl c.see_ids.ensures c.in-Ok.ensures
+    c.new.ensures c.new-2.ensures refl c.new-3.ensures.items refl c.see_ids.ensures c.in-Ok.ensures

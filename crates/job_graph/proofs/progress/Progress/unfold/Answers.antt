@@ -22,7 +22,7 @@ use Rattle.job_graph.proofs.progress.Progress.unfold.Goals as goal
 
 pub returns-in-Ok : goal.returns-in-Ok
 returns-in-Ok c =
-    let known : List KnownJob = c.args.self.now.known.items in
+    let known : List KnownJob = c.args.self.now.known in
     let delta : List Met = map met_of c.in_ok-found.found.walk.met in
     let full : List Met = (walk_in c.args.self.now).met in
     let leaves : LeavesOut (met_by c.args.self.now.facts c.args.self.now.fields c.args.self.now.process.now c.args.self.now.kept) delta full =
@@ -36,10 +36,10 @@ returns-in-Ok c =
       root = subst (KeepsRoot c.args.self.now.facts c.args.self.now.fields c.args.self.now.process.now) (sym c.replace-in-Ok.ensures.after) c.in_ok-found.ensures.kept;
       none = tt;
       ended = λ flagged.
-          flags_grow (map resolved_of c.args.self.now.facts.learned) known c.grow_flagged.new.known.items c.args.self.now.ended.items c.grow_flagged.new.ended.items
+          flags_grow (map resolved_of c.args.self.now.facts.learned) known c.grow_flagged.new.known c.args.self.now.ended.items c.grow_flagged.new.ended.items
           c.grow_flagged.ensures.grows.front flagged c.in-Ok.ensures.ended;
       unfolds = λ ahead counted.
-          let jobs : jobs_in c.grow_flagged.new.known.items ≡ with_met (jobs_in known) full =
+          let jobs : jobs_in c.grow_flagged.new.known ≡ with_met (jobs_in known) full =
           (c.in-Ok.ensures.grows.grown counted).0 ∙ same_jobs (jobs_in known) _ ahead.seen (jobs_in known) delta full (λ job at. at) leaves in
           let none : first_fault (jobs_in known) full ≡ None =
           sym (same_fault (jobs_in known) _ ahead.seen (jobs_in known) delta full (λ job at. at) leaves) ∙ (c.in-Ok.ensures.grows.grown counted).1 in
@@ -47,7 +47,7 @@ returns-in-Ok c =
           let all : c.are_there-are_all.result ≡ list_all (λ out. is_some out.1) outs =
           c.are_there-are_all.ensures ∙ ap (list_all (λ out. is_some out.1)) c.as_slice.ensures in
           let ended : are_learned (map resolved_of c.args.self.now.facts.learned) (jobs_in c.as_slice-in-Ok.result.now) ≡ list_all (is_well (made_from c.args.self.now.facts)) full =
-          ap (λ (k : List KnownJob). are_learned (map resolved_of c.args.self.now.facts.learned) (jobs_in k)) c.as_slice-in-Ok.ensures.value
+          ap (λ (k : List KnownJob). are_learned (map resolved_of c.args.self.now.facts.learned) (jobs_in k)) c.as_slice-in-Ok.ensures
           ∙ ap (are_learned (map resolved_of c.args.self.now.facts.learned)) jobs
           ∙ sym (same_end (map resolved_of c.args.self.now.facts.learned) (jobs_in known) full none ahead.met) in
           record {
@@ -62,13 +62,12 @@ returns-in-Ok c =
 
 pub returns-in-Err : goal.returns-in-Err
 returns-in-Err c =
-    let known : List KnownJob = c.args.self.now.known.items in
+    let known : List KnownJob = c.args.self.now.known in
     let delta : List Met = map met_of c.in_ok-found.found.walk.met in
     let full : List Met = (walk_in c.args.self.now).met in
     let leaves : LeavesOut (met_by c.args.self.now.facts c.args.self.now.fields c.args.self.now.process.now c.args.self.now.kept) delta full =
     subst (λ (k : Option Kept). LeavesOut (met_by c.args.self.now.facts c.args.self.now.fields c.args.self.now.process.now k) delta full) c.replace-kept.ensures.value c.in_ok-found.ensures.met in
-    let many : vec_len c.args.self.now.known ≡ length known = omega (arith, c.args.self.now.known.ok) in
-    let jobs : c.truncate.new.self.items ≡ known = c.truncate.ensures.items ∙ ap (λ (n : ℕ). take n c.grow_flagged.new.known.items) (c.len-before.ensures ∙ many) ∙ c.grow_flagged.ensures.grows.front in
+    let jobs : c.truncate.new.self ≡ known = c.truncate.ensures ∙ ap (λ (n : ℕ). take n c.grow_flagged.new.known) c.len-before.ensures ∙ c.grow_flagged.ensures.grows.front in
     let as_many : vec_len c.args.self.now.ended ≡ length c.args.self.now.ended.items = omega (arith, c.args.self.now.ended.ok) in
     let flags : c.truncate-in-Err.new.self.items ≡ c.args.self.now.ended.items =
     c.truncate-in-Err.ensures.items ∙ ap (λ (n : ℕ). take n c.grow_flagged.new.ended.items) (c.len-flags.ensures ∙ as_many) ∙ c.in-Err.ensures.front in

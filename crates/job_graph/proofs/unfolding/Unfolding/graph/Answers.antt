@@ -15,7 +15,7 @@ graph-requires-clause-stands c = c.self.invariant.stands
 pub graph-requires-clause-each : goal.graph-requires-clause-each
 graph-requires-clause-each c =
     c.requires.each ∙ ap (λ (held : UnfoldedSoFar). length held.known) (sym c.self.view_is)
-    ∙ length-map c.self.inside.progress.known.items (λ (k : KnownJob). job_of k.job)
+    ∙ length-map c.self.inside.progress.known (λ (k : KnownJob). job_of k.job)
 
 pub returns-clause-ok : goal.returns-clause-ok
 returns-clause-ok c =
