@@ -138,12 +138,15 @@ class InJob:
     def asked(self, made: Dict[str, Any]) -> None:
         """Puts the requirements into the plan."""
         made["listing"] = "deep_listing" if self.scope.version == "v1.0" else "no_listing"
+        given = {key: value for key, value in (("cores", self.choices.cores), ("ram", self.choices.ram)) if value is not None}
+        if given:
+            made["given"] = given
         for name, it in self.below.items():
             if name == "ShellCommandRequirement":
                 made["shell"] = True
             elif name == "ResourceRequirement":
                 made["resources"] = {key: value for key, value in it.fields.items() if key.endswith(("Min", "Max"))}
-                self.hints.append(it.fields)
+                self.hints.append(within_given(it.fields, given))
             elif name == "InitialWorkDirRequirement":
                 self.working_folder(made, it)
             elif name == "LoadListingRequirement" and it.fields.get("loadListing") in KNOWN_LISTINGS:
@@ -152,9 +155,8 @@ class InJob:
                 made["timelimit"] = it.fields.get("timelimit")
             elif name == "InplaceUpdateRequirement" and not it.is_hint and it.fields.get("inplaceUpdate") is not False:
                 self.refuse(it.fields, "class", name, "this runner changes no input in its place; --force-inplace-update-as-hint leaves it to you")
-        given = {key: value for key, value in (("cores", self.choices.cores), ("ram", self.choices.ram)) if value is not None}
-        if given:
-            made["given"] = given
+        if given and "ResourceRequirement" not in self.below:
+            self.hints.append(within_given(object_of(self.raw, of_class="ResourceRequirement"), given))
         self.software(made)
 
     def working_folder(self, made: Dict[str, Any], it: Asked) -> None:
@@ -246,6 +248,18 @@ class InJob:
                 reason = why_other(code, "\n".join(self.scope.library.texts) if self.scope.library else "", plain)
                 if reason:
                     self.refuse(node, key, "JavaScript", reason)
+
+
+def within_given(asked: Fields, given: Dict[str, int]) -> Fields:
+    """Returns the hint by which a launcher is told what `runtime` says: what the tool asks for, within what the user gives. An expression stays."""
+    made = asked.like()
+    for key, value in asked.items():
+        made.put(key, value, asked.line_of(key))
+    for name, number in given.items():
+        least, most = asked.get(f"{name}Min"), asked.get(f"{name}Max")
+        if all(it is None or isinstance(it, (int, float)) for it in (least, most)):
+            made.put(f"{name}Min", max(least or 0, number if most is None else min(number, most)))
+    return made
 
 
 def without_files(kinds: Dict[str, Any]) -> FrozenSet[str]:

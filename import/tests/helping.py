@@ -15,6 +15,7 @@ HERE = os.path.dirname(os.path.dirname(os.path.realpath(__file__)))
 TOP = os.path.dirname(HERE)
 sys.path.insert(0, HERE)
 
+from deparohi_import.choices import Choices  # noqa: E402
 from deparohi_import.findings import LEFT, WRONG  # noqa: E402
 from deparohi_import.folder import INPUTS, Folder  # noqa: E402
 from deparohi_import.importing import Import  # noqa: E402
@@ -59,10 +60,10 @@ class InFolder(unittest.TestCase):
         with open(os.path.join(self.path, "out", name), encoding="utf-8") as it:
             return json.load(it)
 
-    def imported(self, text: str, inputs: str = "", forced: tuple = (), name: str = "main.cwl") -> Dict[str, Any]:
+    def imported(self, text: str, inputs: str = "", forced: tuple = (), name: str = "main.cwl", choices: Choices = Choices()) -> Dict[str, Any]:
         """Imports a text, and returns the document that is written of it. What was found is in `findings`."""
         folder = Folder(os.path.join(self.path, "out"))
-        one = Import(folder, set(forced))
+        one = Import(folder, set(forced), choices)
         written = one.document(self.write(name, text))
         if inputs:
             one.inputs(self.write("job.yml", inputs))

@@ -3,7 +3,7 @@
 import os
 import unittest
 
-from .helping import TOOL, InFolder
+from .helping import TOOL, Choices, InFolder
 
 WORKFLOW = "cwlVersion: v1.2\nclass: Workflow\n"
 
@@ -88,6 +88,19 @@ class Rewriting(InFolder):
                 made = self.whole(text + f"{section}: {{ResourceRequirement: {{coresMin: 2, ramMin: $(inputs.n)}}}}\n")
                 self.assertEqual("node", made["baseCommand"][0])
                 self.assertEqual([{"class": "ResourceRequirement", "coresMin": 2, "ramMin": "$(inputs.n)"}], made["hints"])
+
+    def test_a_launcher_is_told_what_runtime_says(self) -> None:
+        rows = {
+            "{coresMin: 2, coresMax: 8}": {"coresMin": 8, "coresMax": 8, "ramMin": 700},
+            "{coresMin: 12, ramMin: 900}": {"coresMin": 12, "ramMin": 900},
+            "{coresMax: 3, ramMin: $(inputs.n)}": {"coresMin": 3, "coresMax": 3, "ramMin": "$(inputs.n)"},
+            "": {"coresMin": 8, "ramMin": 700},
+        }
+        for text, wanted in rows.items():
+            with self.subTest(text):
+                hints = f"hints: {{ResourceRequirement: {text}}}\n" if text else ""
+                made = self.whole(TOOL + "inputs: {n: int}\noutputs: []\narguments: [$(runtime.ram)]\n" + hints, choices=Choices(cores=8, ram=700))
+                self.assertEqual([{"class": "ResourceRequirement", **wanted}], made["hints"])
 
     def test_resources_that_count_at_a_tool(self) -> None:
         tool = "{class: CommandLineTool, baseCommand: 'true', inputs: [], outputs: [], hints: {ResourceRequirement: {coresMin: 3}}}"

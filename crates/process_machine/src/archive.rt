@@ -26,7 +26,8 @@ pub(crate) struct KeyFolders {
 /// The folders of a key in the archive. A key may be as long as a tool is written, so it is summed once for both.
 pub(crate) fn key_folders(alloc: Global, archive: &str, key: &str) -> Result<KeyFolders, AllocError>
     ensures own { IfOk result (λ folders. folders.own ≡ spec.key_folder archive.now key.now) }
-    ensures stores { IfOk result (λ folders. folders.stores ≡ spec.stores_folder archive.now key.now) }
+    ensures stores { IfOk result (λ folders. folders.stores
+        ≡ spec.stores_folder archive.now key.now) }
 {
     let sum = key_sum(alloc, key)?;
     let own = Text::from_string(format!(in alloc; "{archive}/{sum}")?);
