@@ -186,7 +186,7 @@ needs_are held needed outs flags known flagged made outs_are flags_are known_are
     ∙ needs_by (map resolved_of held.facts.learned) held.outputs.named.items held.known
 
 pub vertices_by : (learned : List Resolved) (outs : Fields) (known : List KnownJob) (costs : List Costs) →
-    map (vertex_by outs) (zip (ended_of learned known) (zip known costs)) ≡ map (vertex_of learned outs) (zip (map known_of known) costs)
+    map vertex_by (zip (needed_among learned outs (jobs_in known)) (zip known costs)) ≡ map (vertex_of learned outs) (zip (map known_of known) costs)
 vertices_by learned outs [] costs = refl
 vertices_by learned outs (k ∷ ks) [] = refl
 vertices_by learned outs (k ∷ ks) (c ∷ cs) = ap (λ vs. vertex_of learned outs (known_of k, c) ∷ vs) (vertices_by learned outs ks cs)

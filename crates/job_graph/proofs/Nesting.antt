@@ -1,5 +1,5 @@
 -- How workflows inside steps go on, and what the steps meet and give by it.
-use Rattle.std.proofs.Common.{◌≡◌, ◌∙◌, inl, inr, ℕ, zero, suc, ◌+◌, ◌<◌, ◌≤◌, List, [], ◌∷◌, get_or, length, map, Bool, true, false, not, Option, Some, None, Ok, bytes_eq, refl, sym, ap, ap₂, subst, subst₂, append-nil, arith}
+use Rattle.std.proofs.Common.{◌≡◌, ◌∙◌, inl, inr, ℕ, ◌+◌, ◌<◌, ◌≤◌, List, [], ◌∷◌, get_or, length, map, Bool, true, false, not, Option, Some, None, Ok, bytes_eq, refl, sym, ap, ap₂, subst, subst₂, append-nil, arith}
 use Rattle.std.specs.Prelude.{is_some, reverse}
 use Rattle.std.specs.List.{flat_map, list_all, list_any}
 use Rattle.std.specs.Map.{keys_of}

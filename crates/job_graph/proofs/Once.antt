@@ -1,7 +1,7 @@
 -- A tuple below the lengths is among their tuples once.
-use Rattle.std.proofs.Common.{◌≡◌, ◌∙◌, ℕ, zero, suc, ◌+◌, ◌-◌, ◌*◌, ◌^◌, ◌<◌, ◌≤◌, min, false, true, List, [], ◌∷◌, length, map, get_or, drop, take, Ok, refl, sym, ap, subst, arith}
+use Rattle.std.proofs.Common.{◌≡◌, ◌∙◌, ℕ, zero, suc, ◌-◌, ◌*◌, ◌^◌, ◌<◌, ◌≤◌, min, false, List, [], ◌∷◌, length, get_or, drop, take, refl, sym, ap, subst, arith}
 use Rattle.std.specs.Prelude.{bytes_eq, replicate, All, Contains}
-use Rattle.std.specs.List.{range_with_len, AllByRecursion}
+use Rattle.std.specs.List.{AllByRecursion}
 use Rattle.std.proofs.Math.Nat.{le-mul_of_pos_right, mul_comm}
 use Rattle.std.proofs.lemmas.Bool.{false_from_ne_true, true≢false}
 use Rattle.std.proofs.lemmas.List.{take_all}
@@ -9,8 +9,7 @@ use Rattle.std.proofs.lemmas.List.Elements.{All-contains, All-from_recursion, Al
 use Rattle.std.proofs.lemmas.List.FromFn.{get_or-map-range_with_len, length-map-range_with_len}
 use Rattle.std.proofs.lemmas.Slice.Eq.{bytes_eq-Decides}
 use Rattle.scatter_shape.specs.Laws.{IsBefore, IsBelow}
-use Rattle.scatter_shape.specs.Tuples.{AreEqual, below, common, cross, together, tuples_of}
-use Rattle.scatter_shape.specs.declared.shape.Method.{Method}
+use Rattle.scatter_shape.specs.Tuples.{AreEqual, below, common, cross, together}
 use Rattle.scatter_shape.specs.declared.shape.Method.TheVariants.{Dotproduct, FlatCrossproduct, NestedCrossproduct}
 use Rattle.scatter_shape.specs.declared.tuples.TheConstants.{MOST_TUPLES}
 use Rattle.scatter_shape.proofs.Below.{tuples_are_all_below}

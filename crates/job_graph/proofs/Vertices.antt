@@ -8,8 +8,8 @@ use Rattle.job_graph.specs.declared.costs.Costs.{Costs}
 use Rattle.job_graph.specs.declared.growth.KnownJob.{KnownJob}
 use Rattle.job_graph.specs.declared.progress.Progress.{Progress}
 use Rattle.job_graph.specs.KnownJobs.{job_of}
-use Rattle.job_graph.specs.Words.{Fields}
-use Rattle.job_graph.specs.PresentJobGraph.{AreWithin, present_job_graph, vertex_of}
+use Rattle.job_graph.specs.Jobs.{Job}
+use Rattle.job_graph.specs.PresentJobGraph.{AreWithin, is_needed, needed_among, present_job_graph, vertex_of}
 use Rattle.job_graph.specs.Unfold.{Known, is_within_limits}
 use Rattle.job_graph.specs.inner.Ended.{vertex_by}
 use Rattle.job_graph.specs.inner.Inside.{Stands, seen, walks_in}
@@ -19,21 +19,20 @@ use Rattle.job_graph.proofs.Graphs.{known_make_graph}
 use Rattle.job_graph.proofs.Knowing.{parents_seen}
 use Rattle.job_graph.proofs.Limits.{few_jobs, few_parents, within_limits}
 
--- of what the fields are, where they are lent
-pub made_by : (held : Progress) (costs : List Costs) (vertices : List Vertex) (outs : Fields) (flags : List Bool) (known : List KnownJob) →
-    vertices ≡ map (vertex_by outs) (zip flags (zip known costs)) → outs ≡ held.outputs.named.items → flags ≡ held.ended.items → known ≡ held.known →
-    vertices ≡ map (vertex_by held.outputs.named.items) (zip held.ended.items (zip held.known costs))
-made_by held costs vertices outs flags known made outs_are flags_are known_are =
-    made
-    ∙ ap (λ (named : Fields). map (vertex_by named) (zip flags (zip known costs))) outs_are
-    ∙ ap₂ (λ (fs : List Bool) (ks : List KnownJob). map (vertex_by held.outputs.named.items) (zip fs (zip ks costs))) flags_are known_are
+pub many_flags : (held : Progress) (needed : List Bool) (known : List KnownJob) → needed ≡ needed_among (seen held).learned (seen held).outs (seen held).known → known ≡ held.known →
+    length needed ≡ length known
+many_flags held needed known flags same =
+    ap length flags ∙ length-map (seen held).known (λ (job : Job). is_needed (seen held).learned (seen held).outs job.place)
+    ∙ length-map held.known (λ (k : KnownJob). job_of k.job) ∙ ap length (sym same)
 
-module _ (held : Progress) (costs : List Costs) (vertices : List Vertex) (stands : Stands held)
-    (made : vertices ≡ map (vertex_by held.outputs.named.items) (zip held.ended.items (zip held.known costs))) where
+-- by flags of what is needed, and the known jobs as they are lent
+module _ (held : Progress) (costs : List Costs) (vertices : List Vertex) (needed : List Bool) (known : List KnownJob) (stands : Stands held)
+    (flags : needed ≡ needed_among (seen held).learned (seen held).outs (seen held).known) (same : known ≡ held.known)
+    (made : vertices ≡ map vertex_by (zip needed (zip known costs))) where
   pub is_present : vertices ≡ present_job_graph (seen held).learned (seen held).known (seen held).outs costs
   is_present =
       made
-      ∙ ap (λ (flags : List Bool). map (vertex_by held.outputs.named.items) (zip flags (zip held.known costs))) stands.ended
+      ∙ ap₂ (λ (fs : List Bool) (ks : List KnownJob). map vertex_by (zip fs (zip ks costs))) flags same
       ∙ vertices_by (map resolved_of held.facts.learned) held.outputs.named.items held.known costs
       ∙ ap (λ (known : List Known). map (vertex_of (map resolved_of held.facts.learned) held.outputs.named.items) (zip known costs)) (parents_seen held stands)
 

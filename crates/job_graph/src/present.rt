@@ -14,24 +14,21 @@ use plain_data::{Items, Text};
 use plan_checker::{Graph, GraphError, Vertex};
 use std::alloc::{AllocError, Global};
 
-/// The vertices of known jobs, each with its costs and whether it has ended, where the process has these known outputs.
+/// The vertices of known jobs, each with its costs and whether it is needed.
 pub(crate) fn vertices_of(
     alloc: Global,
-    outs: &[(Text, Value)],
-    ended: &[bool],
+    needed: &[bool],
     known: &[KnownJob<'_>],
     costs: &[Costs],
 ) -> Result<Vec<Vertex>, AllocError>
-    requires ended { length ended.now ≡ length known.now }
+    requires needed { length needed.now ≡ length known.now }
     requires costs { length costs.now ≡ length known.now }
     ensures { IfOk result (λ vertices. vertices.items
-        ≡ map (vertex_by outs.now) (zip ended.now (zip known.now costs.now))) }
+        ≡ map vertex_by (zip needed.now (zip known.now costs.now))) }
 {
-    let makers = Makers::of(alloc, outs)?;
     let mut vertices = Vec::with_capacity(alloc, known.len())?;
     for number in 0..known.len() {
-        let vertex = vertex_of(alloc, &makers, ended[number], &known[number], costs[number])?;
-        vertices.push(vertex)?;
+        vertices.push(vertex_of(alloc, needed[number], &known[number], costs[number])?)?;
     }
     Ok(vertices)
 }
@@ -94,16 +91,13 @@ fn is_needed(makers: &Makers<'_>, has_ended: bool, known: &KnownJob<'_>) -> bool
 /// The vertex of a known job.
 fn vertex_of(
     alloc: Global,
-    makers: &Makers<'_>,
-    has_ended: bool,
+    needed: bool,
     known: &KnownJob<'_>,
     costs: Costs,
 ) -> Result<Vertex, AllocError>
-    ensures { IfOk result (λ vertex. vertex
-        ≡ vertex_by makers.now (has_ended, (known.now, costs))) }
+    ensures { IfOk result (λ vertex. vertex ≡ vertex_by (needed, (known.now, costs))) }
 {
     let parents = copied(alloc, known.parents.as_slice())?;
-    let needed = is_needed(makers, has_ended, known);
     Ok(Vertex {
         load: costs.load,
         compute: costs.compute,

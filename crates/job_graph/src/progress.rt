@@ -119,24 +119,20 @@ impl<'a> Progress<'a> {
         }
     }
 
-    /// The known jobs with these costs, as a planner takes them, or the fault that was met.
-    pub(crate) fn graph(&self, costs: &[Costs]) -> Result<Graph, UnfoldError>
+    /// The known jobs with these costs, as a planner takes them, by flags that say which are needed.
+    pub(crate) fn graph(&self, needed: &[bool], costs: &[Costs]) -> Result<Graph, UnfoldError>
         requires stands { Stands self.now }
+        requires needed { needed.now
+            ≡ needed_among (seen self.now).learned (seen self.now).outs (seen self.now).known }
         requires each { length costs.now ≡ length self.now.known }
         requires within { All AreWithin costs.now }
         ensures ok { IfOk result (λ graph. graph
             ≡ present_job_graph (seen self.now).learned (seen self.now).known (seen self.now).outs
             costs.now) }
-        ensures goes_on { OnOk result (self.now.fault ≡ None) }
         ensures err { IfErr result (Blames (seen self.now).refused) }
     {
-        if let Some(fault) = &self.fault {
-            return Err(UnfoldError::Refused(fault.clone_in(self.alloc)?));
-        }
-        let outs = self.outputs.named.as_slice();
-        let ended = self.ended.as_slice();
         let known = self.known.as_slice();
-        let vertices = vertices_of(self.alloc, outs, ended, known, costs)?;
+        let vertices = vertices_of(self.alloc, needed, known, costs)?;
         graph_of(self.alloc, vertices)
     }
 

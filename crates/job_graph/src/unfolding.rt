@@ -125,6 +125,12 @@ impl<'a> Unfolding<'a> {
         ensures goes_on { OnOk result (self.now.refused ≡ None) }
         ensures err { IfErr result (Blames self.now.refused) }
     {
-        self.progress.graph(costs)
+        if let Some(kept) = &self.needed {
+            return self.progress.graph(kept.as_slice(), costs);
+        }
+        let needed = self.progress.needed()?;
+        let graph = self.progress.graph(needed.as_slice(), costs);
+        mem::drop(needed);
+        graph
     }
 }

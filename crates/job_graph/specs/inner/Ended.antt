@@ -28,11 +28,11 @@ open_by place entry = not entry.0 && is_beside place entry.1.job.place
 abbrev pub needed_by : Fields → Bool × KnownJob → Bool
 needed_by outs entry = not entry.0 || any_made entry.1.job.place outs
 
--- the vertex of a known job with its flag and its costs
-abbrev pub vertex_by : Fields → Bool × (KnownJob × Costs) → Vertex
-vertex_by outs entry = record {
+-- the vertex of a known job with its costs, by a flag that says whether it is needed
+abbrev pub vertex_by : Bool × (KnownJob × Costs) → Vertex
+vertex_by entry = record {
   load = entry.1.1.load;
   compute = entry.1.1.compute;
   parents = entry.1.0.parents;
-  needed = needed_by outs (entry.0, entry.1.0);
+  needed = entry.0;
 }
