@@ -26,7 +26,7 @@ help:
 	@echo "make since         which crates changed since a revision, what stands above them, what to run: REV=commit (a second)"
 	@echo "make new           begin a crate: NAME=name, ON=\"crate ..\" are those that it stands on (a second)"
 	@echo "make test          each row, importer test, example and mistake, a package, the scripts, all with the program compiled with checks, UNPROVED"
-	@echo "                   (15 minutes from nothing, 11 if the program is kept)"
+	@echo "                   (20 minutes from nothing, 15 if the program is kept)"
 	@echo "make gate          the whole gate: every proof that is not kept, the wrong bodies in must-fail/, the programs, and what make test runs with the"
 	@echo "                   proved program (minutes over kept proofs, about two and a quarter hours from nothing: docs/work/gate.md)"
 	@echo "make gate-cost     what the last gate cost, by crate and part (a second)"
