@@ -1,5 +1,5 @@
 -- A graph with one vertex changed, or one vertex more: it is within the limits, and its children are still listed.
-use Rattle.std.proofs.Common.{◌≡◌, ℕ, zero, suc, ◌+◌, ◌<◌, ◌≤◌, List, [], ◌∷◌, ◌++◌, All, cond, eqb, length, get_or, set, sum_by, sym, refl, ap, subst, ◌∙◌, ⊎_elim, arith, get_or-set_other, get_or-set_same}
+use Rattle.std.proofs.Common.{◌≡◌, ℕ, zero, suc, ◌+◌, ◌<◌, ◌≤◌, List, [], ◌∷◌, ◌++◌, All, Contains, cond, eqb, length, get_or, set, sum_by, sym, refl, ap, subst, ◌∙◌, ⊎_elim, arith, get_or-set_other, get_or-set_same}
 use Rattle.std.specs.Option.{ForSome}
 use Rattle.std.specs.List.Sorted.{IsStrictlyIncreasing}
 use Rattle.std.proofs.Math.ListN.{get_or-eq_default}
@@ -10,9 +10,9 @@ use Rattle.plan_checker.specs.declared.vertex.Vertex.{Vertex}
 use Rattle.plan_checker.specs.declared.child.Child.{Child}
 use Rattle.plan_checker.specs.declared.graph.TheConstants.{MOST_ENTRIES, MOST_COST}
 use Rattle.plan_checker.specs.Sums.{sum_below}
-use Rattle.plan_checker.specs.Graph.{no_vertex, vertex, entries_below, Fits, FitsAt, IsGraph}
+use Rattle.plan_checker.specs.Graph.{IsChild, no_vertex, vertex, entries_below, Fits, FitsAt, IsGraph}
 use Rattle.plan_checker.specs.Charges.{passes, passed_to}
-use Rattle.plan_checker.specs.inner.Children.{amount_from, IsThere, AreChildrenBelow, AreChildren, AddsChild}
+use Rattle.plan_checker.specs.inner.Children.{amount_from, AreChildrenBelow, AreChildren, AddsChild}
 use Rattle.plan_checker.proofs.SumsBelow.{sum_below_more, sum_below_same, sum_below-zero}
 use Rattle.plan_checker.proofs.ChildLists.{one_more_child}
 
@@ -83,8 +83,13 @@ children_after_set graph children number job kept same there =
           let before = kept.there p k d h in
           let numbered = before.numbered in
           let placed = before.placed in
-          let parents = ap length (parents_stay graph number (get_or (get_or children p []) k d).vertex job same there) in
-          record { numbered = omega arith; placed = omega arith };
+          let child : Child = get_or (get_or children p []) k d in
+          let parents = parents_stay graph number child.vertex job same there in
+          let counts = ap length parents in
+          record { numbered = omega arith; placed = omega arith; of = ap (λ ps. get_or ps child.place 0) parents ∙ before.of };
+      listed = λ i k hi hk.
+          let P : List ℕ → Type 0 = λ ps. k < length ps → Contains (get_or children (get_or ps k 0) []) (record { vertex = i; place = k }) in
+          subst P (sym (parents_stay graph number i job same there)) (λ within. kept.listed i k (omega arith) within) hk;
       sums = λ charges p below.
           kept.sums charges p (omega arith) ∙ ap (λ n. sum_below n (λ i. passed_to p (vertex graph i).parents (passes charges i))) (sym count) ∙ sum_below_same (length (set graph number job)) (λ i. passed_to p (vertex graph i).parents (passes charges i)) (λ i. passed_to p (vertex (set graph number job) i).parents (passes charges i)) (λ i h. ap (λ ps. passed_to p ps (passes charges i)) (sym (parents_stay graph number i job same there)));
     }
@@ -151,12 +156,19 @@ children_longer graph children job fit kept =
     let each = kept.one_each in
     record {
       one_each = omega arith;
-      there = λ p. All-same (IsThere (graph ++ job ∷ [])) (get_or (children ++ [] ∷ []) p []) (get_or children p []) (list_stays children p) (λ k d h.
+      there = λ p. All-same (IsChild (graph ++ job ∷ []) p) (get_or (children ++ [] ∷ []) p []) (get_or children p []) (list_stays children p) (λ k d h.
           let before = kept.there p k d h in
           let numbered = before.numbered in
           let placed = before.placed in
-          let same = ap (λ v. length v.parents) (get_or_append_left graph (job ∷ []) no_vertex (get_or (get_or children p []) k d).vertex numbered) in
-          record { numbered = omega arith; placed = omega arith });
+          let child : Child = get_or (get_or children p []) k d in
+          let same = get_or_append_left graph (job ∷ []) no_vertex child.vertex numbered in
+          let counts = ap (λ v. length v.parents) same in
+          record { numbered = omega arith; placed = omega arith; of = ap (λ v. get_or v.parents child.place 0) same ∙ before.of });
+      listed = λ i k hi hk.
+          let one : Child = record { vertex = i; place = k } in
+          let P : Vertex → Type 0 = λ v. k < length v.parents → Contains (get_or (children ++ [] ∷ []) (get_or v.parents k 0) []) one in
+          let Has : List Child → Type 0 = λ xs. Contains xs one in
+          subst P (sym (get_or_append_left graph (job ∷ []) no_vertex i hi)) (λ within. subst Has (sym (list_stays children (get_or (vertex graph i).parents k 0))) (kept.listed i k hi within)) hk;
       sums = λ charges p below.
           let now : sum_by (amount_from charges) (get_or (children ++ [] ∷ []) p []) ≡ sum_by (amount_from charges) (get_or children p []) = ap (sum_by (amount_from charges)) (list_stays children p) in
           let same : sum_below (length graph) (λ i. passed_to p (vertex (graph ++ job ∷ []) i).parents (passes charges i)) ≡ sum_below (length graph) (λ i. passed_to p (vertex graph i).parents (passes charges i)) = sum_below_same (length graph) (λ i. passed_to p (vertex (graph ++ job ∷ []) i).parents (passes charges i)) (λ i. passed_to p (vertex graph i).parents (passes charges i)) (λ i h. ap (λ v. passed_to p v.parents (passes charges i)) (get_or_append_left graph (job ∷ []) no_vertex i h)) in

@@ -1,4 +1,4 @@
-use Rattle.std.proofs.Common.{◌≡◌, ◌≢◌, ℕ, ◌<◌, List, [], length, get_or, All, Contains, Option, None, Some, sym, ap, subst, ◌∙◌, ⊎_elim, arith}
+use Rattle.std.proofs.Common.{◌≡◌, ◌≢◌, ◌↔◌, ℕ, ◌<◌, List, [], length, get_or, All, Contains, Option, None, Some, sym, ap, subst, ◌∙◌, ⊎_elim, arith}
 use Rattle.std.specs.List.Sorted.{IsStrictlyIncreasing}
 use Rattle.std.proofs.lemmas.List.{get_or_default, get_or_read}
 use Rattle.std.proofs.lemmas.List.Elements.{All-same, All-contains}
@@ -10,10 +10,10 @@ use Rattle.plan_checker.specs.declared.charges.Charges.{Charges}
 use Rattle.plan_checker.specs.declared.claim.Claim.{Claim}
 use Rattle.plan_checker.specs.declared.plan.Mark.TheVariants.{Compute, Prune}
 use Rattle.plan_checker.specs.declared.broken.Broken.TheVariants.{ParentPruned}
-use Rattle.plan_checker.specs.Graph.{vertex, FitsAt}
+use Rattle.plan_checker.specs.Graph.{IsChild, vertex, FitsAt}
 use Rattle.plan_checker.specs.Plan.{mark}
 use Rattle.plan_checker.specs.Charges.{passes, IsCounted}
-use Rattle.plan_checker.specs.inner.Children.{IsThere, AreChildren}
+use Rattle.plan_checker.specs.inner.Children.{AreChildren}
 use Rattle.plan_checker.specs.inner.Claim.{graph_of, marks_of, IsBroken, SettlesParents, IsFirstPruned}
 
 -- a child that is kept for some vertex is among the vertices, and its pass among its passes
@@ -23,12 +23,25 @@ child_is_there inside graph children charges p k row list d same counted kept be
     let all = subst P same kept in
     let count = all.one_each in
     let e : list ≡ get_or children p [] = row_is ∙ get_or_read children p row (omega arith) is [] in
-    let there = All-same (IsThere graph) list (get_or children p []) e (all.there p) k d here in
+    let there = All-same (IsChild graph p) list (get_or children p []) e (all.there p) k d here in
     let passing = counted.passing in
     let each = counted.each_pass (get_or list k d).vertex there.numbered in
     let place = there.placed in
     let number = there.numbered in
     (omega arith, omega arith)
+
+-- what is kept for a vertex are its children
+pub children_are : (inside graph : List Vertex) (children : List (List Child)) (p : ℕ) (row list : List Child) → inside ≡ graph → AreChildren inside children → p < length graph → row ≡ get_or children p row → list ≡ row → (child : Child) → Contains list child ↔ IsChild graph p child
+children_are inside graph children p row list same kept below is row_is child =
+    let P : List Vertex → Type 0 = λ g. AreChildren g children in
+    let all = subst P same kept in
+    let count = all.one_each in
+    let e : list ≡ get_or children p [] = row_is ∙ get_or_read children p row (omega arith) is [] in
+    let Has : List Child → Type 0 = λ xs. Contains xs child in
+    let At : ℕ → Type 0 = λ q. Contains (get_or children q []) child in (
+      (λ inside. All-contains (IsChild graph p) (get_or children p []) child (all.there p) (subst Has e inside)),
+      (λ is. subst Has (sym e) (subst At is.of (all.listed child.vertex child.place is.numbered is.placed))),
+    )
 
 -- numbers that rise: a lower one stands earlier
 earlier : (xs : List ℕ) (j k : ℕ) → IsStrictlyIncreasing xs → j < length xs → k < length xs → get_or xs j 0 < get_or xs k 0 → j < k

@@ -1,8 +1,9 @@
 -- Job graphs: vertices with costs and parents, within the limits. A vertex is a job, as in Helix (Xin et al., 2018).
-use Rattle.std.specs.Prelude.{◌≡◌, ℕ, ◌+◌, ◌<◌, ◌≤◌, List, [], ◌∷◌, ◌++◌, length, false, None, All, EachIndex, slice_index_or}
+use Rattle.std.specs.Prelude.{◌≡◌, ℕ, ◌+◌, ◌<◌, ◌≤◌, List, [], ◌∷◌, ◌++◌, length, false, None, All, EachIndex, slice_index, slice_index_or}
 use Rattle.std.specs.Option.{ForSome}
 use Rattle.std.specs.List.Sorted.{IsStrictlyIncreasing}
 use Rattle.plan_checker.specs.declared.vertex.Vertex.{Vertex}
+use Rattle.plan_checker.specs.declared.child.Child.{Child}
 use Rattle.plan_checker.specs.declared.graph.TheConstants.{MOST_VERTICES, MOST_ENTRIES, MOST_COST}
 use Rattle.plan_checker.specs.declared.graph_error.GraphError.{GraphError}
 use Rattle.plan_checker.specs.declared.graph_error.GraphError.TheVariants.{BadGraph, OutOfMemory}
@@ -19,6 +20,12 @@ vertex graph i = slice_index_or graph i no_vertex
 -- how many parent entries the vertices below n have
 abbrev pub entries_below : List Vertex → ℕ → ℕ
 entries_below graph n = sum_below n (λ i. length (vertex graph i).parents)
+
+-- a vertex has this one as a parent, at this place among its parents
+pub record IsChild (graph : List Vertex) (parent : ℕ) (child : Child) : Type 0 where
+  pub numbered : child.vertex < length graph
+  pub placed : child.place < length (vertex graph child.vertex).parents
+  pub of : slice_index (vertex graph child.vertex).parents child.place ≡ parent
 
 -- a vertex of this number, with this many parent entries up to its own, is within the limits; its parents are below
 -- it, in rising order

@@ -1,9 +1,10 @@
 //! Graphs of jobs.
 
-ghost use Rattle.std.specs.Prelude.{◌≡◌, ℕ, ◌+◌, ◌-◌, ◌<◌, ◌≤◌, ◌^◌, ◌↔◌, ◌∷◌, ◌++◌, length, sum_by, IsTrue, IfOk, OnOk, IfErr, MatchOption, All, slice_index_or, slice_set, []};
+ghost use Rattle.std.specs.Prelude.{◌≡◌, ℕ, ◌+◌, ◌-◌, ◌<◌, ◌≤◌, ◌^◌, ◌↔◌, ◌∷◌, ◌++◌, length, sum_by, IsTrue, IfOk, OnOk, IfErr, MatchOption, All, Contains, slice_index_or, slice_set, []};
 ghost use Rattle.std.specs.Option.{ForSome};
 ghost use Rattle.std.specs.List.Sorted.{IsStrictlyIncreasing};
-ghost use Rattle.plan_checker.specs.Graph.{vertex, entries_below, Fits, IsGraph, IsFirstMisfit, IsRefused, IsRefusedLast};
+ghost use Rattle.plan_checker.specs.Graph.{vertex, entries_below, Fits, IsChild, IsGraph, IsFirstMisfit, IsRefused, IsRefusedLast};
+ghost use Rattle.plan_checker.specs.declared.child.Child.{Child};
 ghost use Rattle.plan_checker.specs.Charges.{IsCounted, passes, received};
 ghost use Rattle.plan_checker.specs.inner.Children.{AddsChild, AreChildren, amount_from};
 
@@ -78,6 +79,14 @@ impl Graph {
         ensures within { IsGraph self.now }
     {
         self.vertices.as_slice()
+    }
+
+    /// The children of a vertex: which vertices have it as a parent, each with its place among their parents.
+    pub fn children(&self, vertex: usize) -> &[Child]
+        requires { vertex < length self.now }
+        ensures { (child : Child) → Contains result.now child ↔ IsChild self.now vertex child }
+    {
+        self.children[vertex].as_slice()
     }
 
     /// Gives a vertex other costs, and says anew whether it is needed. Its parents stay.

@@ -29,6 +29,7 @@ pub use broken::Broken;
 pub use certificate_error::CertificateError;
 pub use charges::Charges;
 pub use checker::check;
+pub use child::Child;
 pub use graph::{Graph, MOST_COST, MOST_ENTRIES, MOST_VERTICES};
 pub use graph_error::GraphError;
 pub use laws::{

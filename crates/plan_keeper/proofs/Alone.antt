@@ -1,30 +1,24 @@
 -- Where vertices stand apart, the marks and charges of each by itself are the Least plan and what certifies it.
-use Rattle.std.proofs.Common.{◌≡◌, ◌≢◌, ◌⊎◌, ℕ, zero, suc, ◌<◌, ◌≤◌, leb, Bool, true, false, cond, Option, Some, None, List, [], ◌∷◌, length, get_or, map, sum, All, Contains, subst, sym, refl, ap, ◌∙◌, inl, inr, ⊎_elim, true≢false, arith}
-use Rattle.std.proofs.lemmas.Bool.{leb-true, leb-false}
-use Rattle.std.proofs.lemmas.List.{get_or-map, length-map}
-use Rattle.std.proofs.lemmas.List.Elements.{All-contains}
+use Rattle.std.proofs.Common.{◌≡◌, ◌≢◌, ◌⊎◌, ℕ, zero, suc, ◌<◌, ◌≤◌, leb, eqb, Bool, true, false, cond, Option, IsSome, Some, None, unwrap_or, List, [], ◌∷◌, length, get_or, map, sum, All, Contains, subst, sym, refl, ap, ◌∙◌, inl, inr, ⊎_elim, true≢false, arith}
+use Rattle.std.proofs.lemmas.Bool.{cases_eq, leb-true, leb-false}
+use Rattle.std.proofs.lemmas.List.{get_or-map, get_or_default, length-map}
+use Rattle.std.proofs.lemmas.List.Elements.{All-contains, All-contains_itself}
 use Rattle.plan_checker.specs.declared.vertex.Vertex.{Vertex}
 use Rattle.plan_checker.specs.declared.plan.Mark.{Mark}
 use Rattle.plan_checker.specs.declared.plan.Mark.TheVariants.{Load, Compute, Prune}
 use Rattle.plan_checker.specs.declared.charges.Charges.{Charges}
 use Rattle.plan_checker.specs.Graph.{vertex, no_vertex, IsGraph}
+use Rattle.plan_checker.specs.Sums.{sum_below}
 use Rattle.plan_checker.specs.Plan.{mark, cost, cost_of, IsAllowed, IsValid}
-use Rattle.plan_checker.specs.Charges.{passes, IsCounted, IsFair, AreFair}
-use Rattle.plan_checker.specs.Least.{IsLeast, IsCheapest}
+use Rattle.plan_checker.specs.Charges.{passes, passed_to, received, value, IsCounted, IsFair, AreFair}
+use Rattle.plan_checker.specs.Least.{IsLeast}
 use Rattle.plan_checker.specs.Certificate.{IsCertificate}
-use Rattle.plan_checker.proofs.SumsBelow.{below_or_last}
+use Rattle.plan_checker.proofs.SumsBelow.{below_or_last, sum_below_same, sum_below_tight, sum_below-zero, sum_is_below}
 use Rattle.plan_checker.proofs.Duality.{certificate_is_cheapest}
-use Rattle.plan_keeper.specs.Free.{IsFree, IsMarkedFree}
-use Rattle.plan_keeper.specs.Taken.{flow, PlannedGraph, IsSameAt, IsUncharged}
-use Rattle.plan_keeper.specs.Parts.{IsPart, IsReadAt, IsInPart}
+use Rattle.plan_keeper.specs.Free.{IsFree}
 use Rattle.plan_keeper.specs.Apart.{AreApart, kept_alone, alone, price, charge, no_passes, AreMarkedApart, AreChargesApart}
-use Rattle.plan_keeper.proofs.Flows.{none_passed}
-use Rattle.plan_keeper.proofs.Parts.{contains_or_not, parts_make_the_plan}
 
--- a vertex by itself: a graph of one vertex without parents
-
-by_itself : Vertex → Vertex
-by_itself job = record { load = job.load; compute = job.compute; parents = []; needed = job.needed }
+-- what is done with a job by itself, what that costs, and what is charged, by the job's costs
 
 job_of : Option ℕ → ℕ → Bool → Vertex
 job_of load compute needed = record { load = load; compute = compute; parents = []; needed = needed }
@@ -44,20 +38,6 @@ loaded_where load compute e = ap (λ b. cond b Load Compute) e
 
 computed_where : (load compute : ℕ) → leb load compute ≡ false → kept_alone (Some load) compute ≡ Compute
 computed_where load compute e = ap (λ b. cond b Load Compute) e
-
-none_in : (x : ℕ) → Contains [] x → ⊥
-none_in x there = let h = there.1 in omega arith
-
-allowed_alone : (marks : List Mark) (load : Option ℕ) (compute : ℕ) (needed : Bool) → IsAllowed marks (job_of load compute needed) (mark_of load compute needed)
-unfolding job_of mark_of
-allowed_alone marks load compute false = refl
-allowed_alone marks None compute true = λ k d h. absurd (omega arith)
-allowed_alone marks (Some load) compute true =
-    let P : Mark → Type 0 = IsAllowed marks (job_of (Some load) compute true) in
-    ⊎_elim
-    (λ e. subst P (sym (loaded_where load compute e)) refl)
-    (λ e. subst P (sym (computed_where load compute e)) (λ k d h. absurd (omega arith)))
-    (either (leb load compute))
 
 price_of : (load : Option ℕ) (compute : ℕ) (needed : Bool) → cost_of (job_of load compute needed) (mark_of load compute needed) ≡ cost_to load compute needed
 unfolding job_of mark_of cost_to
@@ -96,101 +76,10 @@ no_more marks (Some load) compute true Load allowed low = (
   (λ kept e. let P : Load ≡ Prune = e in absurd (cc)),
 )
 
-charges_alone : Vertex → Charges
-charges_alone job = record { enter = charge job ∷ []; through = charge job ∷ []; pay = charge job ∷ []; pass = [] ∷ [] }
-
-graph_alone : (graph : List Vertex) (i : ℕ) → IsGraph graph → i < length graph → IsGraph (by_itself (vertex graph i) ∷ [])
-unfolding by_itself
-graph_alone graph i good hi zero h =
-    let fits = good i hi in
-    record {
-      few_vertices = omega arith;
-      few_entries = omega arith;
-      load_cost = fits.load_cost;
-      compute_cost = fits.compute_cost;
-      below = λ k d hk. absurd (omega arith);
-      rising = λ k hk. absurd (omega arith);
-    }
-graph_alone graph i good hi (suc k) h = absurd (omega arith)
-
-allowed_first : (job : Vertex) (k : ℕ) → k < 1 → IsAllowed (alone job ∷ []) (vertex (by_itself job ∷ []) k) (mark (alone job ∷ []) k)
-unfolding by_itself job_of mark_of
-allowed_first job zero h = allowed_alone (alone job ∷ []) job.load job.compute job.needed
-allowed_first job (suc k) h = absurd (omega arith)
-
-valid_alone : (job : Vertex) → IsValid (by_itself job ∷ []) (alone job ∷ [])
-valid_alone job = record { one_each = refl; allowed = allowed_first job }
-
 not_charged : (load : Option ℕ) (compute : ℕ) (needed : Bool) → needed ≡ false → cost_to load compute needed ≡ 0
 unfolding cost_to
 not_charged load compute false e = refl
 not_charged load compute true e = absurd (true≢false e)
-
-counted_first : (job : Vertex) (k : ℕ) → k < 1 → length (passes (charges_alone job) k) ≡ length (vertex (by_itself job ∷ []) k).parents
-unfolding by_itself charges_alone
-counted_first job zero h = refl
-counted_first job (suc k) h = absurd (omega arith)
-
-fair_first : (job : Vertex) (k : ℕ) → k < 1 → IsFair (by_itself job ∷ []) (charges_alone job) k
-unfolding by_itself charges_alone cost_to
-fair_first job zero h = record {
-  entering = λ e. not_charged job.load job.compute job.needed e;
-  loading = λ most e. price-le-load job.load job.compute job.needed most e;
-  paying = price-le-compute job.load job.compute job.needed;
-  coming_in = omega arith;
-  going_out = omega arith;
-}
-fair_first job (suc k) h = absurd (omega arith)
-
-fair_alone : (job : Vertex) → AreFair (by_itself job ∷ []) (charges_alone job)
-unfolding charges_alone
-fair_alone job = record {
-  counted = record { enters = refl; throughs = refl; pays = refl; passing = refl; each_pass = counted_first job };
-  fair = fair_first job;
-}
-
-cost_alone : (job : Vertex) → cost (by_itself job ∷ []) (alone job ∷ []) ≡ charge job
-unfolding by_itself job_of mark_of cost_to
-cost_alone job = let same = price_of job.load job.compute job.needed in omega arith
-
-certified_alone : (job : Vertex) → IsCertificate (by_itself job ∷ []) (alone job ∷ []) (charges_alone job)
-unfolding charges_alone
-certified_alone job = record {
-  valid = valid_alone job;
-  fair = fair_alone job;
-  balanced = let same = cost_alone job in omega arith;
-}
-
--- what a cheapest plan of it does
-least_first : (job : Vertex) (other : List Mark) → IsCheapest (by_itself job ∷ []) other → (k : ℕ) → k < 1 → (mark (alone job ∷ []) k ≡ Compute → mark other k ≡ Compute) × (mark (alone job ∷ []) k ≢ Prune → mark other k ≢ Prune)
-unfolding by_itself job_of mark_of cost_to
-least_first job other low zero h =
-    let most : cost (by_itself job ∷ []) other ≤ cost (by_itself job ∷ []) (alone job ∷ []) = low.cheapest (alone job ∷ []) (valid_alone job) in
-    let here = cost_alone job in
-    let least : cost_of (job_of job.load job.compute job.needed) (mark other 0) ≤ cost_to job.load job.compute job.needed = omega arith in
-    no_more other job.load job.compute job.needed (mark other 0) (low.valid.allowed 0 (omega arith)) least
-least_first job other low (suc k) h = absurd (omega arith)
-
-least_alone : (job : Vertex) → IsGraph (by_itself job ∷ []) → IsLeast (by_itself job ∷ []) (alone job ∷ [])
-least_alone job good = record {
-  cheapest = certificate_is_cheapest (by_itself job ∷ []) (alone job ∷ []) (charges_alone job) good (certified_alone job);
-  least = λ other low. record {
-    computes = λ k h. (least_first job other low k h).0;
-    keeps = λ k h. (least_first job other low k h).1;
-  };
-}
-
-planned_alone : (graph : List Vertex) (i : ℕ) → IsGraph graph → i < length graph → PlannedGraph
-planned_alone graph i good hi =
-    let alone_good = graph_alone graph i good hi in
-    record {
-      graph = by_itself (vertex graph i) ∷ [];
-      marks = alone (vertex graph i) ∷ [];
-      charges = charges_alone (vertex graph i);
-      good = alone_good;
-      least = least_alone (vertex graph i) alone_good;
-      certified = certified_alone (vertex graph i);
-    }
 
 -- what is charged and passed at a vertex
 
@@ -216,8 +105,52 @@ counted_apart graph charges c = record {
   each_pass = λ i h. ap length (passes_are graph charges i c h) ∙ length-map (vertex graph i).parents (λ x. 0);
 }
 
-flows_nothing : (graph : List Vertex) (charges : Charges) (i p : ℕ) → IsGraph graph → AreChargesApart graph charges → i < length graph → p < length graph → flow graph charges i p ≡ 0
-flows_nothing graph charges i p good c hi hp = none_passed graph charges i p good (counted_apart graph charges c) hi (passes_none graph charges i c hi) hp
+zeros : List ℕ → List ℕ
+zeros xs = map (λ x. 0) xs
+
+none_at : (xs : List ℕ) (k : ℕ) → get_or (zeros xs) k 0 ≡ 0
+unfolding zeros
+none_at [] k = refl
+none_at (x ∷ xs) zero = refl
+none_at (x ∷ xs) (suc k) = none_at xs k
+
+same_either : (b : Bool) (n : ℕ) → n ≡ 0 → cond b n 0 ≡ 0
+same_either true n e = e
+same_either false n e = refl
+
+passed_none : (graph : List Vertex) (charges : Charges) (i p : ℕ) → AreChargesApart graph charges → i < length graph → passed_to p (vertex graph i).parents (passes charges i) ≡ 0
+unfolding zeros
+passed_none graph charges i p c h =
+    let parents : List ℕ = (vertex graph i).parents in
+    sum_below_same (length parents) (λ k. cond (eqb (get_or parents k 0) p) (get_or (passes charges i) k 0) 0) (λ k. 0)
+    (λ k hk. same_either (eqb (get_or parents k 0) p) (get_or (passes charges i) k 0) (ap (λ xs. get_or xs k 0) (passes_are graph charges i c h) ∙ none_at parents k))
+    ∙ sum_below-zero (length parents)
+
+received_none : (graph : List Vertex) (charges : Charges) (p : ℕ) → AreChargesApart graph charges → received graph charges p ≡ 0
+received_none graph charges p c =
+    sum_below_same (length graph) (λ i. passed_to p (vertex graph i).parents (passes charges i)) (λ i. 0) (λ i hi. passed_none graph charges i p c hi)
+    ∙ sum_below-zero (length graph)
+
+fair_at : (graph : List Vertex) (charges : Charges) (i : ℕ) → AreChargesApart graph charges → i < length graph → IsFair graph charges i
+unfolding cost_to
+fair_at graph charges i c h =
+    let job : Vertex = vertex graph i in
+    let enter = charged graph charges.enter i c.enter h in
+    let through = charged graph charges.through i c.through h in
+    let pay = charged graph charges.pay i c.pay h in
+    let passed = passes_none graph charges i c h in
+    let got = received_none graph charges i c in
+    let most = price-le-compute job.load job.compute job.needed in
+    record {
+      entering = λ e. enter ∙ not_charged job.load job.compute job.needed e;
+      loading = λ most e. let low = price-le-load job.load job.compute job.needed most e in omega arith;
+      paying = omega arith;
+      coming_in = omega arith;
+      going_out = omega arith;
+    }
+
+fair_apart : (graph : List Vertex) (charges : Charges) → AreChargesApart graph charges → AreFair graph charges
+fair_apart graph charges c = record { counted = counted_apart graph charges c; fair = λ i h. fair_at graph charges i c h }
 
 -- which vertices are computed
 
@@ -239,15 +172,32 @@ computed_is_costly job e free = free_is_not_computed job.load job.compute job.ne
 -- the parents of what is computed are free
 pub parent_is_free : (graph : List Vertex) (j i : ℕ) → AreApart graph → j < length graph → alone (vertex graph j) ≡ Compute → Contains (vertex graph j).parents i → IsFree (vertex graph i)
 parent_is_free graph j i apart hj computed there =
-    ⊎_elim
-    (λ free. absurd (computed_is_costly (vertex graph j) computed free))
-    (λ all. All-contains (λ p. IsFree (vertex graph p)) (vertex graph j).parents i all there)
-    (apart j no_vertex hj)
+    All-contains (λ p. IsFree (vertex graph p)) (vertex graph j).parents i ((apart j no_vertex hj).free_parents computed) there
 
 pub computes_or_not : (m : Mark) → (m ≡ Compute) ⊎ (m ≢ Compute)
 computes_or_not Load = inr (λ e. cc)
 computes_or_not Compute = inl refl
 computes_or_not Prune = inr (λ e. cc)
+
+-- a number below m with this place, or none
+found : (m : ℕ) (f : ℕ → ℕ) (p : ℕ) → ((a : ℕ) × (a < m) × (f a ≡ p)) ⊎ ((a : ℕ) → a < m → f a ≢ p)
+found zero f p = inr (λ a h. absurd (omega arith))
+found (suc m) f p =
+    ⊎_elim
+    (λ e. inl (m, omega arith, e))
+    (λ ne. ⊎_elim
+    (λ some. inl (some.0, (let h = some.1 in omega arith), some.2))
+    (λ none. inr (λ a h. ⊎_elim (λ lt. none a lt) (λ e same. ne (ap f (sym e) ∙ same)) (below_or_last m a h)))
+    (found m f p))
+    (cases_eq (f m) p)
+
+-- a number is among these, or not
+pub contains_or_not : (xs : List ℕ) (x : ℕ) → Contains xs x ⊎ ¬ Contains xs x
+contains_or_not xs x =
+    ⊎_elim
+    (λ (some : (k : ℕ) × (k < length xs) × (get_or xs k 0 ≡ x)). inl (some.0, some.1, get_or_default xs some.0 x 0 some.1 ∙ some.2))
+    (λ none. inr (λ (there : Contains xs x). none there.0 there.1 (get_or_default xs there.0 0 x there.1 ∙ there.2)))
+    (found (length xs) (λ k. get_or xs k 0) x)
 
 -- a computed vertex below n that has this parent
 record Computing (graph : List Vertex) (n i : ℕ) : Type 0 where
@@ -283,13 +233,6 @@ costly_mark graph marks i apart marked hi dear =
 computed_here : (graph : List Vertex) (marks : List Mark) (j : ℕ) → AreApart graph → AreMarkedApart graph marks (length graph) → j < length graph → alone (vertex graph j) ≡ Compute → mark marks j ≡ Compute
 computed_here graph marks j apart marked hj e = costly_mark graph marks j apart marked hj (computed_is_costly (vertex graph j) e) ∙ e
 
-computed_by_itself : (graph : List Vertex) (marks : List Mark) (j : ℕ) → AreMarkedApart graph marks (length graph) → j < length graph → mark marks j ≡ Compute → alone (vertex graph j) ≡ Compute
-computed_by_itself graph marks j marked hj e =
-    ⊎_elim
-    (λ (some : Computing graph (length graph) j). let P : Load ≡ Compute = sym (marked.loaded some.job some.below some.computed j some.there) ∙ e in absurd (cc))
-    (λ none. sym (marked.others j hj none) ∙ e)
-    (computing graph (length graph) j)
-
 -- free vertices
 
 free_mark : (load : Option ℕ) (compute : ℕ) (needed : Bool) → load ≡ Some 0 → needed ≡ true → mark_of load compute needed ≡ Load
@@ -318,108 +261,162 @@ pub free_charged : (job : Vertex) → IsFree job → charge job ≡ 0
 unfolding cost_to
 free_charged job free = free_charge job.load job.compute job.needed free
 
-free_marked : (graph : List Vertex) (marks : List Mark) (i : ℕ) → AreApart graph → AreMarkedApart graph marks (length graph) → i < length graph → IsFree (vertex graph i) → IsMarkedFree graph marks i
-unfolding mark_of
-free_marked graph marks i apart marked hi free =
-    let job : Vertex = vertex graph i in
-    ⊎_elim
-    (λ (some : Computing graph (length graph) i).
-    inl (inr (some.job, some.below, computed_here graph marks some.job apart marked some.below some.computed, some.there), marked.loaded some.job some.below some.computed i some.there))
-    (λ none.
-    let here : mark marks i ≡ alone job = marked.others i hi none in
-    ⊎_elim
-    (λ needed. inl (inl needed, here ∙ free_mark job.load job.compute job.needed free needed))
-    (λ spare. inr (
-      (λ wanted. ⊎_elim
-          (λ needed. true≢false (sym needed ∙ spare))
-          (λ (some : (j : ℕ) × (j < length graph) × (mark marks j ≡ Compute) × Contains (vertex graph j).parents i).
-          none some.0 some.1 (computed_by_itself graph marks some.0 marked some.1 some.2) some.3)
-          wanted),
-      here ∙ spare_mark job.load job.compute job.needed spare,
-    ))
-    (either job.needed))
-    (computing graph (length graph) i)
-
-free_uncharged : (graph : List Vertex) (charges : Charges) (i : ℕ) → AreChargesApart graph charges → i < length graph → IsFree (vertex graph i) → IsUncharged graph charges i
-unfolding cost_to
-free_uncharged graph charges i c hi free =
-    let job : Vertex = vertex graph i in
-    let none = free_charge job.load job.compute job.needed free in
-    record {
-      enter = charged graph charges.enter i c.enter hi ∙ none;
-      through = charged graph charges.through i c.through hi ∙ none;
-      pay = charged graph charges.pay i c.pay hi ∙ none;
-      passing = passes_none graph charges i c hi;
-    }
-
--- a vertex that isn't free is a part
+-- the plan is valid, and costs what is charged
 
 free_or_costly : (load : Option ℕ) → (load ≡ Some 0) ⊎ (load ≢ Some 0)
 free_or_costly None = inr (λ e. cc)
 free_or_costly (Some zero) = inl refl
 free_or_costly (Some (suc n)) = inr (λ e. let P : suc n ≡ 0 = cc in absurd (omega arith))
 
-at_first : (P : ℕ → Type 0) → P 0 → (k : ℕ) → k < 1 → P k
-at_first P here zero h = here
-at_first P here (suc k) h = absurd (omega arith)
+-- the mark of a free vertex: that by itself, or it is loaded for a computed one
+free_as : (graph : List Vertex) (marks : List Mark) (i : ℕ) → AreMarkedApart graph marks (length graph) → i < length graph → (mark marks i ≡ alone (vertex graph i)) ⊎ (mark marks i ≡ Load)
+free_as graph marks i marked hi =
+    ⊎_elim
+    (λ (some : Computing graph (length graph) i). inr (marked.loaded some.job some.below some.computed i some.there))
+    (λ none. inl (marked.others i hi none))
+    (computing graph (length graph) i)
 
-is_part : (graph : List Vertex) (i : ℕ) → AreApart graph → i < length graph → (¬ IsFree (vertex graph i)) → IsPart graph (i ∷ []) (by_itself (vertex graph i) ∷ [])
-unfolding by_itself
-is_part graph i apart hi dear =
-    let all : All (λ p. IsFree (vertex graph p)) (vertex graph i).parents = ⊎_elim (λ free. absurd (dear free)) (λ all. all) (apart i no_vertex hi) in
-    record {
-      one_each = refl;
-      there = λ k d. at_first (λ k. get_or (i ∷ []) k d < length graph) hi k;
-      rising = λ k h. absurd (omega arith);
-      costly = λ k d. at_first (λ k. ¬ IsFree (vertex graph (get_or (i ∷ []) k d))) dear k;
-      parents = at_first (λ k. (p : ℕ) → Contains (vertex graph (get_or (i ∷ []) k 0)).parents p → IsFree (vertex graph p) ⊎ ((q : ℕ) × (q < 1) × (get_or (i ∷ []) q 0 ≡ p) × Contains (vertex (by_itself (vertex graph i) ∷ []) k).parents q))
-          (λ p there. inl (All-contains (λ p. IsFree (vertex graph p)) (vertex graph i).parents p all there));
-      no_more = at_first (λ k. (q : ℕ) → Contains (vertex (by_itself (vertex graph i) ∷ []) k).parents q → Contains (vertex graph (get_or (i ∷ []) k 0)).parents (get_or (i ∷ []) q 0))
-          (λ q there. absurd (none_in q there));
-      children = at_first (λ k. (j : ℕ) → j < length graph → Contains (vertex graph j).parents (get_or (i ∷ []) k 0) → IsFree (vertex graph j) ⊎ Contains (i ∷ []) j)
-          (λ j hj there. inl (⊎_elim
-          (λ free. free)
-          (λ parents. absurd (dear (All-contains (λ p. IsFree (vertex graph p)) (vertex graph j).parents i parents there)))
-          (apart j no_vertex hj)));
-    }
+-- what is computed has its parents there
+allowed_as : (marks : List Mark) (load : Option ℕ) (compute : ℕ) (parents : List ℕ) (needed : Bool) → (mark_of load compute needed ≡ Compute → All (λ parent. mark marks parent ≢ Prune) parents) → IsAllowed marks (record { load = load; compute = compute; parents = parents; needed = needed }) (mark_of load compute needed)
+unfolding mark_of
+allowed_as marks load compute parents false there = refl
+allowed_as marks None compute parents true there = there refl
+allowed_as marks (Some load) compute parents true there =
+    let P : Mark → Type 0 = IsAllowed marks (record { load = Some load; compute = compute; parents = parents; needed = true }) in
+    ⊎_elim
+    (λ e. subst P (sym (loaded_where load compute e)) refl)
+    (λ e. subst P (sym (computed_where load compute e)) (there (computed_where load compute e)))
+    (either (leb load compute))
 
-is_read : (graph : List Vertex) (marks : List Mark) (charges : Charges) (i : ℕ) → (good : IsGraph graph) → AreApart graph → AreMarkedApart graph marks (length graph) → AreChargesApart graph charges → (hi : i < length graph) → (¬ IsFree (vertex graph i)) → IsReadAt graph marks charges (i ∷ []) (planned_alone graph i good hi)
-unfolding planned_alone by_itself charges_alone
-is_read graph marks charges i good apart marked c hi dear = record {
-  same = at_first (λ k. IsSameAt graph marks charges (get_or (i ∷ []) k 0) (planned_alone graph i good hi) k) (record {
-    load = refl;
-    compute = refl;
-    needed = refl;
-    marked = costly_mark graph marks i apart marked hi dear;
-    enter = charged graph charges.enter i c.enter hi;
-    through = charged graph charges.through i c.through hi;
-    pay = charged graph charges.pay i c.pay hi;
-  });
-  passes = λ k q hk hq. at_first (λ k. flow graph charges (get_or (i ∷ []) k 0) (get_or (i ∷ []) q 0) ≡ flow (by_itself (vertex graph i) ∷ []) (charges_alone (vertex graph i)) k q)
-      (at_first (λ q. flow graph charges i (get_or (i ∷ []) q 0) ≡ 0) (flows_nothing graph charges i i good c hi hi) q hq) k hk;
-  none_to_free = λ k p hk hp free. at_first (λ k. flow graph charges (get_or (i ∷ []) k 0) p ≡ 0) (flows_nothing graph charges i p good c hi hp) k hk;
+loadable : (o : Option ℕ) → o ≡ Some 0 → IsSome o
+loadable None e = absurd (cc)
+loadable (Some x) e = refl
+
+allowed_at : (graph : List Vertex) (marks : List Mark) (i : ℕ) → AreApart graph → AreMarkedApart graph marks (length graph) → i < length graph → IsAllowed marks (vertex graph i) (mark marks i)
+unfolding mark_of
+allowed_at graph marks i apart marked hi =
+    let job : Vertex = vertex graph i in
+    let P : Mark → Type 0 = IsAllowed marks job in
+    let own : P (alone job) = allowed_as marks job.load job.compute job.parents job.needed
+    (λ computed k d hk. λ pruned. let loaded : mark marks (get_or job.parents k d) ≡ Load = marked.loaded i hi computed (get_or job.parents k d) (All-contains_itself job.parents k d hk) in let Q : Load ≡ Prune = sym loaded ∙ pruned in absurd (cc))
+    in
+    ⊎_elim
+    (λ (e : mark marks i ≡ alone job). subst P (sym e) own)
+    (λ (e : mark marks i ≡ Load). ⊎_elim
+    (λ free. subst P (sym e) (loadable job.load free))
+    (λ dear. subst P (sym (costly_mark graph marks i apart marked hi dear)) own)
+    (free_or_costly job.load))
+    (free_as graph marks i marked hi)
+
+valid_apart : (graph : List Vertex) (marks : List Mark) → AreApart graph → AreMarkedApart graph marks (length graph) → IsValid graph marks
+valid_apart graph marks apart marked = record { one_each = marked.count; allowed = λ i hi. allowed_at graph marks i apart marked hi }
+
+cost_as : (load : Option ℕ) (compute : ℕ) (parents : List ℕ) (needed : Bool) (m : Mark) → cost_of (record { load = load; compute = compute; parents = parents; needed = needed }) m ≡ cost_of (job_of load compute needed) m
+unfolding job_of
+cost_as load compute parents needed Load = refl
+cost_as load compute parents needed Compute = refl
+cost_as load compute parents needed Prune = refl
+
+free_cost : (load : Option ℕ) (compute : ℕ) (needed : Bool) (m : Mark) → load ≡ Some 0 → (m ≡ mark_of load compute needed) ⊎ (m ≡ Load) → cost_of (job_of load compute needed) m ≡ 0
+unfolding job_of
+free_cost load compute needed Load free is = ap (λ (o : Option ℕ). unwrap_or o 0) free
+free_cost load compute needed Compute free is = ⊎_elim (λ e. absurd (free_is_not_computed load compute needed free (sym e))) (λ e. absurd (cc)) is
+free_cost load compute needed Prune free is = refl
+
+cost_at : (graph : List Vertex) (marks : List Mark) (i : ℕ) → AreApart graph → AreMarkedApart graph marks (length graph) → i < length graph → cost_of (vertex graph i) (mark marks i) ≡ charge (vertex graph i)
+unfolding mark_of cost_to
+cost_at graph marks i apart marked hi =
+    let job : Vertex = vertex graph i in
+    cost_as job.load job.compute job.parents job.needed (mark marks i) ∙ ⊎_elim
+    (λ free. free_cost job.load job.compute job.needed (mark marks i) free (free_as graph marks i marked hi) ∙ sym (free_charge job.load job.compute job.needed free))
+    (λ dear. ap (cost_of (job_of job.load job.compute job.needed)) (costly_mark graph marks i apart marked hi dear) ∙ price_of job.load job.compute job.needed)
+    (free_or_costly job.load)
+
+charged_in_all : (graph : List Vertex) (charges : Charges) → AreChargesApart graph charges → value charges ≡ sum_below (length graph) (λ i. charge (vertex graph i))
+charged_in_all graph charges c =
+    sum_is_below charges.enter
+    ∙ ap (λ n. sum_below n (λ i. get_or charges.enter i 0)) (counted_apart graph charges c).enters
+    ∙ sum_below_same (length graph) (λ i. get_or charges.enter i 0) (λ i. charge (vertex graph i)) (λ i hi. charged graph charges.enter i c.enter hi)
+
+certified_apart : (graph : List Vertex) (marks : List Mark) (charges : Charges) → AreApart graph → AreMarkedApart graph marks (length graph) → AreChargesApart graph charges → IsCertificate graph marks charges
+certified_apart graph marks charges apart marked c = record {
+  valid = valid_apart graph marks apart marked;
+  fair = fair_apart graph charges c;
+  balanced = charged_in_all graph charges c
+      ∙ sym (sum_below_same (length graph) (λ i. cost_of (vertex graph i) (mark marks i)) (λ i. charge (vertex graph i)) (λ i hi. cost_at graph marks i apart marked hi));
 }
 
-is_in_part : (graph : List Vertex) (marks : List Mark) (charges : Charges) (i : ℕ) → IsGraph graph → AreApart graph → AreMarkedApart graph marks (length graph) → AreChargesApart graph charges → i < length graph → (¬ IsFree (vertex graph i)) → IsInPart graph marks charges i
-unfolding planned_alone
-is_in_part graph marks charges i good apart marked c hi dear = record {
-  part = planned_alone graph i good hi;
-  numbers = i ∷ [];
-  is_part = is_part graph i apart hi dear;
-  in_it = (0, omega arith, refl);
-  read = is_read graph marks charges i good apart marked c hi dear;
-}
+-- what another cheapest plan does
+
+charge_least : (marks : List Mark) (load : Option ℕ) (compute : ℕ) (parents : List ℕ) (needed : Bool) (m : Mark) → IsAllowed marks (record { load = load; compute = compute; parents = parents; needed = needed }) m → cost_to load compute needed ≤ cost_of (job_of load compute needed) m
+unfolding job_of cost_to
+charge_least marks load compute parents false m allowed = omega arith
+charge_least marks load compute parents true Prune allowed = absurd (true≢false allowed)
+charge_least marks load compute parents true Compute allowed = price-le-compute load compute true
+charge_least marks None compute parents true Load allowed = let P : false ≡ true = allowed in absurd (true≢false (sym P))
+charge_least marks (Some load) compute parents true Load allowed = omega arith
+
+allowed_first : (marks : List Mark) (load : Option ℕ) (compute : ℕ) (parents : List ℕ) (needed : Bool) (m : Mark) → IsAllowed marks (record { load = load; compute = compute; parents = parents; needed = needed }) m → IsAllowed marks (job_of load compute needed) m
+unfolding job_of
+allowed_first marks load compute parents needed Load allowed = allowed
+allowed_first marks load compute parents needed Compute allowed = λ k d h. absurd (omega arith)
+allowed_first marks load compute parents needed Prune allowed = allowed
+
+charge_at_least : (graph : List Vertex) (other : List Mark) → IsValid graph other → (i : ℕ) → i < length graph → charge (vertex graph i) ≤ cost_of (vertex graph i) (mark other i)
+unfolding cost_to
+charge_at_least graph other valid i hi =
+    let job : Vertex = vertex graph i in
+    let same = cost_as job.load job.compute job.parents job.needed (mark other i) in
+    let low = charge_least other job.load job.compute job.parents job.needed (mark other i) (valid.allowed i hi) in
+    omega arith
+
+-- a plan that costs no more than this one does no less at a vertex than what is done with it by itself
+does_own : (graph : List Vertex) (marks other : List Mark) → AreApart graph → AreMarkedApart graph marks (length graph) → IsValid graph other → cost graph other ≤ cost graph marks → (i : ℕ) → i < length graph → (alone (vertex graph i) ≡ Compute → mark other i ≡ Compute) × (alone (vertex graph i) ≢ Prune → mark other i ≢ Prune)
+unfolding mark_of cost_to
+does_own graph marks other apart marked valid most i hi =
+    let job : Vertex = vertex graph i in
+    let own : ℕ → ℕ = λ i. charge (vertex graph i) in
+    let all = sum_below_same (length graph) (λ i. cost_of (vertex graph i) (mark marks i)) own (λ i hi. cost_at graph marks i apart marked hi) in
+    let here = sum_below_tight (length graph) own (λ i. cost_of (vertex graph i) (mark other i)) (charge_at_least graph other valid) (omega arith) i hi in
+    let same = cost_as job.load job.compute job.parents job.needed (mark other i) in
+    let least : cost_of (job_of job.load job.compute job.needed) (mark other i) ≤ cost_to job.load job.compute job.needed = omega arith in
+    no_more other job.load job.compute job.needed (mark other i) (allowed_first other job.load job.compute job.parents job.needed (mark other i) (valid.allowed i hi)) least
+
+-- what is kept is kept for itself, or for a vertex that the other plan computes too
+kept_too : (graph : List Vertex) (marks other : List Mark) → AreApart graph → AreMarkedApart graph marks (length graph) → IsValid graph other → cost graph other ≤ cost graph marks → (i : ℕ) → i < length graph → mark marks i ≢ Prune → mark other i ≢ Prune
+kept_too graph marks other apart marked valid most i hi kept =
+    ⊎_elim
+    (λ (some : Computing graph (length graph) i).
+    let computes : mark other some.job ≡ Compute = (does_own graph marks other apart marked valid most some.job some.below).0 some.computed in
+    let P : Mark → Type 0 = IsAllowed other (vertex graph some.job) in
+    let there : All (λ parent. mark other parent ≢ Prune) (vertex graph some.job).parents = subst P computes (valid.allowed some.job some.below) in
+    All-contains (λ p. mark other p ≢ Prune) (vertex graph some.job).parents i there some.there)
+    (λ none.
+    let here : mark marks i ≡ alone (vertex graph i) = marked.others i hi none in
+    (does_own graph marks other apart marked valid most i hi).1 (λ pruned. kept (here ∙ pruned)))
+    (computing graph (length graph) i)
+
+computed_too : (graph : List Vertex) (marks other : List Mark) → AreApart graph → AreMarkedApart graph marks (length graph) → IsValid graph other → cost graph other ≤ cost graph marks → (i : ℕ) → i < length graph → mark marks i ≡ Compute → mark other i ≡ Compute
+computed_too graph marks other apart marked valid most i hi computed =
+    ⊎_elim
+    (λ (e : mark marks i ≡ alone (vertex graph i)). (does_own graph marks other apart marked valid most i hi).0 (sym e ∙ computed))
+    (λ (e : mark marks i ≡ Load). let P : Load ≡ Compute = sym e ∙ computed in absurd (cc))
+    (free_as graph marks i marked hi)
 
 pub apart_is_planned : (graph : List Vertex) (marks : List Mark) (charges : Charges) → IsGraph graph → AreApart graph → AreMarkedApart graph marks (length graph) → AreChargesApart graph charges → IsLeast graph marks × IsCertificate graph marks charges
 apart_is_planned graph marks charges good apart marked c =
-    parts_make_the_plan graph marks charges good (record {
-      one_each = marked.count;
-      counted = counted_apart graph charges c;
-      each = λ i hi. ⊎_elim
-          (λ free. inl (free, free_marked graph marks i apart marked hi free, free_uncharged graph charges i c hi free))
-          (λ dear. inr (is_in_part graph marks charges i good apart marked c hi dear))
-          (free_or_costly (vertex graph i).load);
-    })
+    let certified = certified_apart graph marks charges apart marked c in (
+      record {
+        cheapest = certificate_is_cheapest graph marks charges good certified;
+        least = λ other low.
+            let most = low.cheapest marks certified.valid in
+            record {
+              computes = λ i hi. computed_too graph marks other apart marked low.valid most i hi;
+              keeps = λ i hi. kept_too graph marks other apart marked low.valid most i hi;
+            };
+      },
+      certified,
+    )
 
 -- the same, of lists that are those
 pub planned_apart : (graph seen : List Vertex) (marks made : List Mark) (charges : Charges) → seen ≡ graph → made ≡ marks → IsGraph graph → AreApart seen → AreMarkedApart seen marks (length seen) → AreChargesApart seen charges → IsLeast graph made × IsCertificate graph made charges

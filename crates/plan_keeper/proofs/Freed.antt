@@ -1,5 +1,5 @@
 -- A vertex that becomes free, among vertices that stand apart.
-use Rattle.std.proofs.Common.{◌≡◌, ◌≢◌, ℕ, ◌+◌, ◌-◌, ◌<◌, ◌≤◌, Bool, List, length, get_or, set, map, sum, sum_by, Contains, subst, sym, refl, ap, ◌∙◌, inl, inr, ⊎_elim, arith, get_or-set_same, get_or-set_other}
+use Rattle.std.proofs.Common.{◌≡◌, ◌≢◌, ℕ, ◌+◌, ◌-◌, ◌<◌, ◌≤◌, Bool, List, length, get_or, set, map, sum, sum_by, Contains, subst, sym, refl, ap, ◌∙◌, ⊎_elim, arith, get_or-set_same, get_or-set_other}
 use Rattle.std.proofs.Math.Seq.{map-set_same}
 use Rattle.std.proofs.lemmas.Bool.{cases_eq}
 use Rattle.std.proofs.lemmas.List.Sums.{sum_by_from, sum_by-set}
@@ -15,8 +15,7 @@ use Rattle.plan_keeper.specs.declared.planned.Planned.{Planned}
 use Rattle.plan_keeper.specs.Free.{IsFree}
 use Rattle.plan_keeper.specs.Apart.{StandsApart, AreApart, alone, charge, no_passes, AreMarkedApart, AreChargesApart}
 use Rattle.plan_keeper.specs.Kept.{IsKeptApart, freed, IsLeft, IsMarkApart, IsRemarked, uncharged}
-use Rattle.plan_keeper.proofs.Alone.{apart_is_planned, computed_is_costly, computes_or_not, free_charged, parent_is_free}
-use Rattle.plan_keeper.proofs.Parts.{contains_or_not}
+use Rattle.plan_keeper.proofs.Alone.{apart_is_planned, computed_is_costly, computes_or_not, contains_or_not, free_charged, parent_is_free}
 use Rattle.plan_keeper.proofs.Remarked.{all_have, each_has}
 
 -- the vertices after the change
@@ -45,11 +44,10 @@ freed_apart graph number compute needed h apart i d hi =
     let same = get_or_default (after graph number compute needed) i no_vertex d hi in
     let Q : ℕ → Type 0 = λ k. P (vertex (after graph number compute needed) k) in
     subst P same (⊎_elim
-    (λ eq. subst Q (sym eq) (subst P (sym (changed graph number compute needed h)) (inl refl)))
-    (λ ne. subst P (sym (unchanged graph number compute needed i ne)) (⊎_elim
-    (λ free. inl free)
-    (λ all. inr (λ k e hk. free_stays graph number compute needed h _ (all k e hk)))
-    (apart i no_vertex (omega arith))))
+    (λ eq. subst Q (sym eq) (subst P (sym (changed graph number compute needed h)) (record { free_parents = λ computed. absurd (computed_is_costly job computed refl) })))
+    (λ ne. subst P (sym (unchanged graph number compute needed i ne)) (record {
+      free_parents = λ computed k e hk. free_stays graph number compute needed h _ ((apart i no_vertex (omega arith)).free_parents computed k e hk);
+    }))
     (cases_eq i number))
 
 -- what is computed after the change was computed before it

@@ -1,5 +1,5 @@
 -- A vertex that is added after others, where it stands apart from them.
-use Rattle.std.proofs.Common.{◌≡◌, ℕ, ◌+◌, ◌-◌, ◌<◌, ◌^◌, None, Some, List, [], ◌∷◌, ◌++◌, length, get_or, map, sum, Contains, subst, sym, refl, ap, ◌∙◌, inl, inr, ⊎_elim, arith}
+use Rattle.std.proofs.Common.{◌≡◌, ℕ, ◌+◌, ◌-◌, ◌<◌, ◌^◌, None, Some, List, [], ◌∷◌, ◌++◌, length, get_or, map, sum, Contains, subst, sym, refl, ap, ◌∙◌, ⊎_elim, arith}
 use Rattle.std.proofs.Math.ListN.{get_or-eq_default}
 use Rattle.std.proofs.lemmas.Bool.{cases_lt}
 use Rattle.std.proofs.lemmas.List.Sums.{fold_push}
@@ -33,10 +33,7 @@ free_stays graph job p free =
     (cases_lt p (length graph))
 
 stands_still : (graph : List Vertex) (job one : Vertex) → StandsApart graph one → StandsApart (graph ++ job ∷ []) one
-stands_still graph job one =
-    ⊎_elim
-    (λ free. inl free)
-    (λ all. inr (λ k d hk. free_stays graph job _ (all k d hk)))
+stands_still graph job one stands = record { free_parents = λ computed k d hk. free_stays graph job _ (stands.free_parents computed k d hk) }
 
 grown_apart : (graph : List Vertex) (job : Vertex) → AreApart graph → StandsApart graph job → AreApart (graph ++ job ∷ [])
 grown_apart graph job apart its i d hi =

@@ -1,12 +1,3 @@
-pub mod Reindexed
-pub mod Flows
-pub mod Even
-pub mod Copied
-pub mod Chosen
-pub mod Spread
-pub mod Taken
-pub mod Parts
-pub mod Unreached
 pub mod Alone
 pub mod Marked
 pub mod Remarked

@@ -1,16 +1,67 @@
 -- Marks of vertices that stand apart, made anew one after the other.
-use Rattle.std.proofs.Common.{◌≡◌, ◌≢◌, ◌⊎◌, ℕ, ◌+◌, ◌<◌, List, length, get_or, set, Contains, subst, sym, refl, ap, ◌∙◌, inl, inr, ⊎_elim, arith, get_or-set_same, get_or-set_other}
+use Rattle.std.proofs.Common.{◌≡◌, ◌≢◌, ◌⊎◌, ◌↔◌, ℕ, ◌+◌, ◌<◌, ◌≤◌, List, length, get_or, set, Contains, subst, sym, refl, ap, ◌∙◌, inr, ⊎_elim, arith, get_or-set_same, get_or-set_other}
 use Rattle.std.proofs.lemmas.Bool.{cases_eq}
 use Rattle.std.proofs.lemmas.List.{length-set, get_or_default}
 use Rattle.std.proofs.lemmas.List.Elements.{All-contains}
 use Rattle.plan_checker.specs.declared.vertex.Vertex.{Vertex}
+use Rattle.plan_checker.specs.declared.child.Child.{Child}
 use Rattle.plan_checker.specs.declared.plan.Mark.{Mark}
 use Rattle.plan_checker.specs.declared.plan.Mark.TheVariants.{Load, Compute, Prune}
-use Rattle.plan_checker.specs.Graph.{vertex, no_vertex, IsGraph}
+use Rattle.plan_checker.specs.Graph.{IsChild, vertex, no_vertex, IsGraph}
 use Rattle.plan_checker.specs.Plan.{mark}
 use Rattle.plan_checker.proofs.SumsBelow.{below_or_last}
 use Rattle.plan_keeper.specs.Apart.{alone, AreMarkedApart}
 use Rattle.plan_keeper.specs.Kept.{AreRemarked, IsLeft, IsMarkApart, IsRemarked}
+
+-- these are the children of a vertex
+abbrev pub AreAllOf : List Vertex → ℕ → List Child → Type 0
+AreAllOf graph number children = (child : Child) → Contains children child ↔ IsChild graph number child
+
+abbrev pub no_child : Child
+no_child = record { vertex = 0; place = 0 }
+
+-- of the first n of them none is computed
+abbrev pub NoneComputed : List Vertex → List Child → ℕ → Type 0
+NoneComputed graph children n = (k : ℕ) → k < n → alone (vertex graph (get_or children k no_child).vertex) ≢ Compute
+
+pub child_at : (graph : List Vertex) (number : ℕ) (children : List Child) → AreAllOf graph number children → (k : ℕ) → k < length children → IsChild graph number (get_or children k no_child)
+child_at graph number children are k hk =
+    let child : Child = get_or children k no_child in
+    (are child).0 (k, hk, get_or_default children k child no_child hk)
+
+pub left_of : (graph : List Vertex) (number : ℕ) (children : List Child) (n : ℕ) → AreAllOf graph number children → length children ≤ n → NoneComputed graph children n → IsLeft graph number
+left_of graph number children n are all none j d hj =
+    let P : Vertex → Type 0 = λ job. alone job ≡ Compute → ¬ Contains job.parents number in
+    subst P (get_or_default graph j no_vertex d hj) (λ computed (there : Contains (vertex graph j).parents number).
+    let child : Child = record { vertex = j; place = there.0 } in
+    let is : IsChild graph number child = record { numbered = hj; placed = there.1; of = get_or_default (vertex graph j).parents there.0 0 number there.1 ∙ there.2 } in
+    let listed : Contains children child = (are child).1 is in
+    let Q : Child → Type 0 = λ child. alone (vertex graph child.vertex) ≡ Compute in
+    let same : get_or children listed.0 no_child ≡ child = get_or_default children listed.0 no_child child listed.1 ∙ listed.2 in
+    let here = listed.1 in
+    none listed.0 (omega arith) (subst Q (sym same) computed))
+
+-- a vertex that was read
+pub read_there : (graph seen : List Vertex) (number : ℕ) (job : Vertex) → number < length graph → seen ≡ graph → job ≡ get_or seen number job → job ≡ vertex graph number
+read_there graph seen number job h es read = read ∙ ap (λ xs. get_or xs number job) es ∙ get_or_default graph number job no_vertex h
+
+pub some_left : (graph seen : List Vertex) (number : ℕ) (children : List Child) (k : ℕ) (job : Vertex) (its : Mark) → AreAllOf graph number children → k < length children → seen ≡ graph → job ≡ get_or seen (get_or children k no_child).vertex job → its ≡ alone job → its ≡ Compute → ¬ IsLeft graph number
+some_left graph seen number children k job its are hk es read e computed left =
+    let is = child_at graph number children are k hk in
+    let child : Child = get_or children k no_child in
+    let parents : List ℕ = (vertex graph child.vertex).parents in
+    let here : alone (vertex graph child.vertex) ≡ Compute = ap alone (sym (read_there graph seen child.vertex job is.numbered es read)) ∙ sym e ∙ computed in
+    left child.vertex no_vertex is.numbered here (child.place, is.placed, get_or_default parents child.place number 0 is.placed ∙ is.of)
+
+pub none_more : (graph seen : List Vertex) (number : ℕ) (children : List Child) (n : ℕ) (job : Vertex) (its : Mark) → AreAllOf graph number children → n < length children → seen ≡ graph → job ≡ get_or seen (get_or children n no_child).vertex job → its ≡ alone job → its ≢ Compute → NoneComputed graph children n → NoneComputed graph children (n + 1)
+none_more graph seen number children n job its are hn es read e spare none k hk =
+    let is = child_at graph number children are n hn in
+    let child : Child = get_or children n no_child in
+    let P : ℕ → Type 0 = λ k. alone (vertex graph (get_or children k no_child).vertex) ≢ Compute in
+    ⊎_elim
+    (λ lt. none k lt)
+    (λ (eq : k ≡ n). subst P (sym eq) (λ computed. spare (e ∙ ap alone (read_there graph seen child.vertex job is.numbered es read) ∙ computed)))
+    (below_or_last n k (omega arith))
 
 -- a vertex of which some child is computed is loaded
 pub loaded_mark : (graph : List Vertex) (i : ℕ) → (¬ IsLeft graph i) → IsMarkApart graph i Load

@@ -1,5 +1,5 @@
--- Graphs in which each vertex that isn't free stands alone, as those of a first run do: their plans are read off.
-use Rattle.std.specs.Prelude.{◌≡◌, ◌⊎◌, ℕ, ◌<◌, min, nat_le, cond, Option, Some, None, List, length, map, All, Contains}
+-- Graphs in which what is best for each vertex by itself is best for all: their plans are read off.
+use Rattle.std.specs.Prelude.{◌≡◌, ℕ, ◌<◌, min, nat_le, cond, Option, Some, None, List, length, map, All, Contains}
 use Rattle.plan_checker.specs.declared.vertex.Vertex.{Vertex}
 use Rattle.plan_checker.specs.declared.plan.Mark.{Mark}
 use Rattle.plan_checker.specs.declared.plan.Mark.TheVariants.{Load, Compute, Prune}
@@ -7,13 +7,6 @@ use Rattle.plan_checker.specs.declared.charges.Charges.{Charges}
 use Rattle.plan_checker.specs.Graph.{vertex}
 use Rattle.plan_checker.specs.Plan.{mark}
 use Rattle.plan_keeper.specs.Free.{IsFree}
-
--- it is free, or each of its parents is
-abbrev pub StandsApart : List Vertex → Vertex → Type 0
-StandsApart graph job = IsFree job ⊎ All (λ parent. IsFree (vertex graph parent)) job.parents
-
-abbrev pub AreApart : List Vertex → Type 0
-AreApart graph = All (StandsApart graph) graph
 
 -- what is done with a job that has to be kept, by itself: it is loaded where that costs no more
 abbrev pub kept_alone : Option ℕ → ℕ → Mark
@@ -23,6 +16,13 @@ kept_alone (Some load) compute = cond (nat_le load compute) Load Compute
 -- what is done with a job by itself
 abbrev pub alone : Vertex → Mark
 alone job = cond job.needed (kept_alone job.load job.compute) Prune
+
+-- if it is computed by itself, each of its parents is free
+pub record StandsApart (graph : List Vertex) (job : Vertex) : Type 0 where
+  pub free_parents : alone job ≡ Compute → All (λ parent. IsFree (vertex graph parent)) job.parents
+
+abbrev pub AreApart : List Vertex → Type 0
+AreApart graph = All (StandsApart graph) graph
 
 -- what it costs to keep a job
 abbrev pub price : Option ℕ → ℕ → ℕ

@@ -1,7 +1,7 @@
-//! The plan of a graph in which each vertex that isn't free stands alone.
+//! The plan of a graph in which what is best for each vertex by itself is best for all.
 //!
 //! A first run's graphs are such: a job is known once the jobs that made its inputs have ended, and then their outputs are
-//! at hand. So what isn't free has free parents, and no children yet.
+//! at hand. So what is computed has free parents. So are those of a run in which all that is needed is loaded.
 
 ghost use Rattle.std.specs.Prelude.{◌≡◌, ◌<◌, ◌↔◌, All, IfOk, IfSome, IsSome, IsTrue, length, map};
 ghost use Rattle.plan_checker.specs.Certificate.{IsCertificate};
@@ -15,7 +15,7 @@ use plain_data::Items;
 use plan_checker::{Charges, Graph, Mark, Plan, Vertex};
 use std::alloc::{AllocError, Global};
 
-/// The Least plan of a graph in which no two vertices that aren't free are parent and child, and charges that certify it;
+/// The Least plan of a graph in which each vertex that is computed by itself has free parents alone, and charges that certify it;
 /// none of another graph. The vertices and their parents are gone through, each a few times.
 pub fn plan_apart(alloc: Global, graph: &Graph) -> Result<Option<(Plan, Charges)>, AllocError>
     ensures apart { IfOk result (λ found. IsSome found ↔ AreApart graph.now) }
@@ -41,7 +41,7 @@ pub fn plan_apart(alloc: Global, graph: &Graph) -> Result<Option<(Plan, Charges)
     )))
 }
 
-/// Whether each vertex is free, or has free parents alone.
+/// Whether each vertex isn't computed by itself, or has free parents alone.
 fn are_apart(vertices: &[Vertex]) -> bool
     ensures { IsTrue result ↔ AreApart vertices.now }
 {
@@ -52,7 +52,7 @@ fn are_apart(vertices: &[Vertex]) -> bool
 pub(crate) fn stands_apart(vertices: &[Vertex], vertex: &Vertex) -> bool
     ensures { IsTrue result ↔ StandsApart vertices.now vertex.now }
 {
-    all_free(vertices, vertex.parents.as_slice()) || is_free(vertex)
+    all_free(vertices, vertex.parents.as_slice()) || mark_alone(vertex) != Mark::Compute
 }
 
 fn all_free(vertices: &[Vertex], numbers: &[usize]) -> bool
@@ -66,15 +66,9 @@ fn is_free_at(vertices: &[Vertex], number: usize) -> bool
     ensures { IsTrue result ↔ IsFree (vertex vertices.now number) }
 {
     match vertices.get(number) {
-        Some(vertex) => is_free(vertex),
+        Some(vertex) => vertex.load == Some(0),
         None => false,
     }
-}
-
-fn is_free(vertex: &Vertex) -> bool
-    ensures { IsTrue result ↔ IsFree vertex.now }
-{
-    vertex.load == Some(0)
 }
 
 /// The marks: what is computed has its parents loaded, and all else is marked by itself.

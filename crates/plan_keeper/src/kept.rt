@@ -18,7 +18,7 @@ use plan_checker::{Charges, Graph, GraphError, MOST_COST, Mark, Plan, Vertex};
 use std::alloc::{AllocError, Global};
 use std::mem;
 
-/// Plans a graph in which no two vertices that aren't free are parent and child; gives another graph back.
+/// Plans a graph in which each vertex that is computed by itself has free parents alone; gives another graph back.
 pub fn keep_apart(alloc: Global, graph: Graph) -> Result<Result<Planned, Graph>, AllocError>
     ensures kept { IfOk result (λ found. IfOk found (λ kept.
         IsKeptApart kept × (kept.graph ≡ graph))) }
@@ -50,7 +50,7 @@ pub fn free_vertex(alloc: Global, planned: &mut Planned, number: usize, compute:
     planned.graph.set(number, Some(0), compute, needed);
     planned.cost -= uncharge(alloc, &mut planned.charges, number);
     let mut marks = mem::replace(&mut planned.plan.marks, Items::new(alloc)).into_vec();
-    remark(&mut marks, planned.graph.vertices(), number, was);
+    remark(&mut marks, &planned.graph, number, was);
     mem::drop(mem::replace(&mut planned.plan.marks, Items::from_vec(marks)));
 }
 
@@ -81,42 +81,44 @@ fn clear(alloc: Global, amounts: &mut Items<u64>, number: usize)
 
 /// Marks a vertex anew where it was marked otherwise by itself, and its parents where it was computed: no child of it is
 /// computed then.
-fn remark(marks: &mut Vec<Mark>, vertices: &[Vertex], number: usize, was: Mark)
-    requires graph { IsGraph vertices.now }
-    requires counted { length marks.old.items ≡ length vertices.now }
-    requires there { number < length vertices.now }
-    requires left { was ≡ Compute → IsLeft vertices.now number }
-    ensures { IsRemarked vertices.now marks.old.items marks.new.items number was }
+fn remark(marks: &mut Vec<Mark>, graph: &Graph, number: usize, was: Mark)
+    requires counted { length marks.old.items ≡ length graph.now }
+    requires there { number < length graph.now }
+    requires left { was ≡ Compute → IsLeft graph.now number }
+    ensures remarked { IsRemarked graph.now marks.old.items marks.new.items number was }
+    ensures within { IsGraph graph.now }
 {
+    let vertex = &graph.vertices()[number];
+    let own = mark_alone(vertex);
     if was == Mark::Compute {
-        marks[number] = mark_alone(&vertices[number]);
-        remark_all(marks, vertices, vertices[number].parents.as_slice());
-    } else if was != mark_alone(&vertices[number]) {
-        marks[number] = mark_now(vertices, number);
+        marks[number] = own;
+        remark_all(marks, graph, vertex.parents.as_slice());
+    } else if was != own {
+        marks[number] = mark_now(graph, number);
     }
 }
 
 /// Marks vertices anew.
-fn remark_all(marks: &mut Vec<Mark>, vertices: &[Vertex], numbers: &[usize])
-    requires counted { length marks.old.items ≡ length vertices.now }
-    requires there { All (λ number. number < length vertices.now) numbers.now }
-    ensures { AreRemarked vertices.now marks.old.items marks.new.items numbers.now
+fn remark_all(marks: &mut Vec<Mark>, graph: &Graph, numbers: &[usize])
+    requires counted { length marks.old.items ≡ length graph.now }
+    requires there { All (λ number. number < length graph.now) numbers.now }
+    ensures { AreRemarked graph.now marks.old.items marks.new.items numbers.now
         (length numbers.now) }
 {
     for place in 0..numbers.len() {
         let number = numbers[place];
-        marks[number] = mark_now(vertices, number);
+        marks[number] = mark_now(graph, number);
     }
 }
 
 /// The mark of a vertex: it is loaded where a child of it is computed, and else marked by itself. What is loaded by itself needs
-/// no look at the others.
-fn mark_now(vertices: &[Vertex], number: usize) -> Mark
-    requires { number < length vertices.now }
-    ensures { IsMarkApart vertices.now number result }
+/// no look at its children.
+fn mark_now(graph: &Graph, number: usize) -> Mark
+    requires { number < length graph.now }
+    ensures { IsMarkApart graph.now number result }
 {
-    let own = mark_alone(&vertices[number]);
-    if own == Mark::Load || is_left(vertices, number) {
+    let own = mark_alone(&graph.vertices()[number]);
+    if own == Mark::Load || is_left(graph, number) {
         own
     } else {
         Mark::Load
@@ -124,23 +126,20 @@ fn mark_now(vertices: &[Vertex], number: usize) -> Mark
 }
 
 /// Whether no child of this vertex is computed.
-fn is_left(vertices: &[Vertex], number: usize) -> bool
-    ensures { IsTrue result ↔ IsLeft vertices.now number }
+fn is_left(graph: &Graph, number: usize) -> bool
+    requires { number < length graph.now }
+    ensures { IsTrue result ↔ IsLeft graph.now number }
 {
-    vertices.iter().all(|vertex| leaves(vertex, number))
+    let vertices = graph.vertices();
+    for child in graph.children(number) {
+        if mark_alone(&vertices[child.vertex]) == Mark::Compute {
+            return false;
+        }
+    }
+    true
 }
 
-/// Most vertices have no parents, and need no other look.
-fn leaves(vertex: &Vertex, number: usize) -> bool
-    ensures { IsTrue result
-        ↔ (alone vertex.now ≡ Compute → ¬ Contains vertex.now.parents number) }
-{
-    vertex.parents.is_empty()
-        || mark_alone(vertex) != Mark::Compute
-        || !vertex.parents.as_slice().contains(&number)
-}
-
-/// Adds a vertex after the others, where it is free or has free parents alone, and plans it; none where it isn't so.
+/// Adds a vertex after the others, where it isn't computed by itself or has free parents alone, and plans it; none where it isn't so.
 pub fn add_vertex(
     alloc: Global,
     planned: Planned,

@@ -1,12 +1,12 @@
-//! How the Least plan of a graph is made of the Least plans of its parts.
+//! Least plans that are read off, and kept while the graph changes.
 //!
-//! A vertex that loads at no cost is free, as a job that is in flight or at hand. Free vertices cut a graph: what hangs
-//! together only by way of them can be planned apart, and what has not changed keeps its marks and charges.
+//! By itself a needed job is loaded where that costs no more than to compute it, and else computed. Where each vertex that is computed by
+//! itself has parents alone that load at no cost, what is best for each is best for all.
 //!
-//! - `plan_apart` reads the plan off a graph in which all other vertices stand apart, as in a first run.
+//! - `plan_apart` reads the plan off such a graph.
 //! - `keep_apart`, `free_vertex` and `add_vertex` keep the plan of such a graph while it changes.
 //! - `plan_cost` sums what a plan costs.
-//! - The laws are contracts of functions that do nothing.
+//! - A law is the contract of a function that does nothing.
 #![tactic(auto)]
 
 mod apart;
@@ -18,5 +18,5 @@ mod planned;
 pub use apart::plan_apart;
 pub use cost::plan_cost;
 pub use kept::{add_vertex, free_vertex, keep_apart};
-pub use laws::{kept_is_planned, parts_make_the_plan, plans_make_the_plan, unreached_stays};
+pub use laws::kept_is_planned;
 pub use planned::Planned;

@@ -1,6 +1,6 @@
 -- Graphs whose vertices stand apart: the first ones of them, and one more.
 use Rattle.std.specs.Prelude.{◌↔◌, IfErr, IfOk, IfSome, IsSome, IsTrue, is_some}
-use Rattle.std.proofs.Common.{◌≡◌, ◌≢◌, ◌∙◌, ℕ, zero, suc, ◌+◌, ◌<◌, ◌≤◌, true, false, List, [], ◌∷◌, ◌++◌, All, Option, Some, None, Result, Ok, Err, length, take, get_or, sym, refl, ap, subst, inl, inr, ⊎_elim, arith}
+use Rattle.std.proofs.Common.{◌≡◌, ◌≢◌, ◌∙◌, ℕ, zero, suc, ◌+◌, ◌<◌, ◌≤◌, true, false, List, [], ◌∷◌, ◌++◌, All, Option, Some, None, Result, Ok, Err, length, take, get_or, sym, refl, ap, subst, arith}
 use Rattle.std.proofs.lemmas.List.{get_or-take, get_or_append_left, get_or_default, get_or_push, length_push}
 use Rattle.job_graph.specs.Unfold.{Fault}
 use Rattle.job_graph.specs.Unfolding.{Blames, fault_of}
@@ -38,13 +38,11 @@ apart_taken k all it =
       apart = λ i d within.
           let there = taken_within k all i within in
           subst (λ (v : Vertex). StandsApart (take k all) v) (sym (get_or_default (take k all) i d no_vertex within ∙ same i there.0))
-          (⊎_elim
-          (λ (free : IsFree (vertex all i)). inl free)
-          (λ (parents : All (λ parent. IsFree (vertex all parent)) (vertex all i).parents).
-          inr (λ q e hq.
-          let below : get_or (vertex all i).parents q e < i = (it.good i there.1).below q e hq in
-          subst IsFree (sym (same (get_or (vertex all i).parents q e) (omega (arith, below, there.0)))) (parents q e hq)))
-          (it.apart i no_vertex there.1));
+          (record {
+            free_parents = λ computed q e hq.
+                let below : get_or (vertex all i).parents q e < i = (it.good i there.1).below q e hq in
+                subst IsFree (sym (same (get_or (vertex all i).parents q e) (omega (arith, below, there.0)))) ((it.apart i no_vertex there.1).free_parents computed q e hq);
+          });
     }
 
 -- the last vertex of such a graph stands apart from those before it
@@ -55,11 +53,9 @@ last_stands graph job it =
     let is : vertex (graph ++ job ∷ []) n ≡ job = get_or_push graph job no_vertex n refl in
     let below : All (λ parent. parent < n) job.parents = subst (λ (v : Vertex). All (λ parent. parent < n) v.parents) is (it.good n there).below in
     let stands : StandsApart (graph ++ job ∷ []) job = subst (λ (v : Vertex). StandsApart (graph ++ job ∷ []) v) is (it.apart n no_vertex there) in
-    ⊎_elim
-    (λ (free : IsFree job). inl free)
-    (λ (parents : All (λ parent. IsFree (vertex (graph ++ job ∷ []) parent)) job.parents).
-    inr (λ q e hq. subst IsFree (get_or_append_left graph (job ∷ []) no_vertex (get_or job.parents q e) (below q e hq)) (parents q e hq)))
-    stands
+    record {
+      free_parents = λ computed q e hq. subst IsFree (get_or_append_left graph (job ∷ []) no_vertex (get_or job.parents q e) (below q e hq)) (stands.free_parents computed q e hq);
+    }
 
 -- where it doesn't fit there is no such graph
 pub misfit : (graph : List Vertex) (job : Vertex) (i : ℕ) → (i ≡ length graph) × (¬ FitsAt (graph ++ job ∷ []) i) → IsGraphApart (graph ++ job ∷ []) → ⊥

@@ -3,7 +3,7 @@ use Rattle.std.specs.Prelude.{◌↔◌, drop}
 use Rattle.std.proofs.Common.{drop-cons, ◌≡◌, ◌≢◌, ◌∙◌, ◌⊎◌, inl, inr, subst, ℕ, zero, suc, ◌+◌, ◌<◌, ◌≤◌, Bool, false, List, [], ◌∷◌, ◌++◌, length, map, take, get_or, set, sym, refl, ap, ⊎_elim, arith}
 use Rattle.std.proofs.Math.Seq.{take-suc}
 use Rattle.std.proofs.Math.ListN.{get_or-eq_default}
-use Rattle.std.proofs.lemmas.Bool.{cases_eq, cases_lt}
+use Rattle.std.proofs.lemmas.Bool.{cases_eq}
 use Rattle.std.proofs.lemmas.List.{get_or-append_right, get_or_append_left, get_or-map, get_or-set_other, get_or-set_same, get_or-take, get_or_default, length-append, length-map, length-set, length-take-le, map-set, same_lists, set-get_or, set_past, take_all, take_more}
 use Rattle.job_graph.specs.Jobs.{Job}
 use Rattle.job_graph.specs.KnownJobs.{known_of}

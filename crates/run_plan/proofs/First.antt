@@ -1,7 +1,7 @@
 -- A graph of the first of some jobs, as far as its parents say.
 use Rattle.std.specs.List.{zip}
 use Rattle.std.specs.Prelude.{Err, Ok, OnErr, OnOk, Result}
-use Rattle.std.proofs.Common.{◌≡◌, ◌∙◌, ℕ, zero, suc, ◌+◌, ◌<◌, ◌≤◌, List, [], ◌∷◌, ◌++◌, length, map, take, get_or, sym, refl, ap, subst, arith}
+use Rattle.std.proofs.Common.{◌≡◌, ◌∙◌, ℕ, zero, suc, ◌<◌, ◌≤◌, List, [], ◌∷◌, ◌++◌, length, map, take, get_or, sym, refl, ap, subst, arith}
 use Rattle.std.proofs.lemmas.List.{get_or-take}
 use Rattle.job_graph.specs.Jobs.{Job}
 use Rattle.job_graph.specs.PresentJobGraph.{present_job_graph, vertex_of}

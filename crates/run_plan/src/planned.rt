@@ -33,7 +33,7 @@ pub fn plan_for(
     Ok(planned_graph(alloc, graph, last)?)
 }
 
-/// Plans a graph: the plan is read off where all that isn't free stands apart.
+/// Plans a graph: the plan is read off where the vertices stand apart.
 fn planned_graph(
     alloc: Global,
     graph: Graph,

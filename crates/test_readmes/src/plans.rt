@@ -9,7 +9,7 @@ use plan_checker::{
     CertificateError, Charges, Graph, GraphError, Plan, Vertex, check, read_certificate,
     write_certificate,
 };
-use plan_keeper::{add_vertex, keep_apart, parts_make_the_plan, plan_apart, plan_cost};
+use plan_keeper::{add_vertex, keep_apart, plan_apart, plan_cost};
 use plan_words::{Known, plan_lines, plan_picture, plan_reasons, waiting_line};
 use std::alloc::{AllocError, Global};
 use test_paths::{no_charges, plan_from};
@@ -54,7 +54,7 @@ pub fn flow_by_levels(alloc: Global) -> Result<(), AllocError> {
 
 /// A sample of `plan_keeper`.
 pub fn plan_that_stands_apart(alloc: Global, graph: &Graph) -> Result<(), AllocError> {
-    if let Some((plan, charges)) = plan_apart(alloc, graph)? { // None: some costly vertices hang together
+    if let Some((plan, charges)) = plan_apart(alloc, graph)? { // None: what is computed by itself has costly parents
         let cost = plan_cost(graph, &plan);
     }
     Ok(())
@@ -66,11 +66,6 @@ pub fn kept_plan(alloc: Global, graph: Graph, vertex: Vertex) -> Result<(), Grap
         let kept = add_vertex(alloc, kept, vertex)?; // None: the vertex doesn't stand apart; plan from nothing
     }
     Ok(())
-}
-
-/// A sample of `plan_keeper`.
-pub fn law_on_parts() {
-    parts_make_the_plan(); // a plan made of parts is the Least plan
 }
 
 /// The sample of `plan_words`.

@@ -47,7 +47,7 @@ pub fn larger(alloc: Global, number: u64) -> Result<Graph, Fail> {
     graph_of(alloc, &mut numbers, number % 41, most)
 }
 
-/// A graph of up to 40 jobs in which what isn't free stands apart.
+/// A graph of up to 40 jobs that stand apart: what is computed by itself has parents that load at no cost.
 pub fn apart(alloc: Global, number: u64) -> Result<Graph, Fail> {
     let mut numbers = Numbers { state: number };
     let most = if number / 100 % 2 == 0 { 3 } else { 1_000_000 };
@@ -61,7 +61,7 @@ pub fn apart(alloc: Global, number: u64) -> Result<Graph, Fail> {
     Ok(Graph::new(alloc, vertices)?)
 }
 
-/// Lets the parents of a job load at no cost, where the job itself doesn't.
+/// Lets the parents of a job load at no cost, where the job itself is computed.
 fn free_parents(alloc: Global, vertices: &mut Vec<Vertex>, job: usize) -> Result<(), AllocError> {
     let parents = costly_parents(alloc, vertices.as_slice(), job)?;
     for parent in parents.into_vec() {
@@ -72,18 +72,25 @@ fn free_parents(alloc: Global, vertices: &mut Vec<Vertex>, job: usize) -> Result
     Ok(())
 }
 
-/// The parents of a job that doesn't load at no cost.
+/// The parents of a job that is computed by itself: it is needed, and can't be loaded for less.
 fn costly_parents(
     alloc: Global,
     vertices: &[Vertex],
     job: usize,
 ) -> Result<Items<usize>, AllocError> {
     match vertices.get(job) {
-        Some(vertex) if vertex.load != Some(0) => Ok(Items::from_vec(Vec::from_slice(
+        Some(vertex) if is_computed(vertex) => Ok(Items::from_vec(Vec::from_slice(
             alloc,
             vertex.parents.as_slice(),
         )?)),
         _ => Ok(Items::new(alloc)),
+    }
+}
+
+fn is_computed(vertex: &Vertex) -> bool {
+    match vertex.load {
+        None => vertex.needed,
+        Some(load) => vertex.needed && load > vertex.compute,
     }
 }
 

@@ -1,4 +1,4 @@
-use Rattle.std.proofs.Common.{◌≡◌, ◌≢◌, ◌<◌, ◌≤◌, ◌-◌}
+use Rattle.std.proofs.Common.{◌≢◌, ◌<◌, ◌≤◌, ◌-◌}
 use Rattle.plan_checker.specs.Graph.{vertex}
 use Rattle.plan_keeper.specs.Kept.{IsKeptApart}
 use Rattle.run_plan.specs.inner.Again.{vertices_of}

@@ -1,5 +1,5 @@
 use Rattle.std.specs.Prelude.{◌↔◌, IfSome, IsSome, slice_index_or}
-use Rattle.std.proofs.Common.{rules, ◌≡◌, ◌∙◌, ◌+◌, ◌++◌, ◌∷◌, ◌<◌, ◌≤◌, ℕ, [], List, None, Option, ap, arith, false, length, map, refl, subst, sym}
+use Rattle.std.proofs.Common.{rules, ◌≡◌, ◌∙◌, ◌+◌, ◌++◌, ◌∷◌, ◌<◌, ◌≤◌, ℕ, [], List, None, Option, ap, false, length, map, refl, subst, sym}
 use Rattle.std.proofs.lemmas.List.{get_or_default}
 use Rattle.job_graph.specs.declared.costs.Costs.{Costs}
 use Rattle.plan_checker.specs.declared.vertex.Vertex.{Vertex}
