@@ -1,5 +1,5 @@
 -- Steps that are walked one after another, and those that read them.
-use Rattle.std.proofs.Common.{◌≡◌, ◌∙◌, ◌⊎◌, inl, inr, ⊎_elim, ℕ, zero, suc, ◌+◌, ◌<◌, List, [], ◌∷◌, ◌++◌, get_or, length, replicate, take, Bool, true, false, cond, drop, not, Option, Some, None, bytes_eq, refl, sym, ap, ap₂, subst, subst₂, arith}
+use Rattle.std.proofs.Common.{◌≡◌, ◌∙◌, inl, inr, ℕ, zero, suc, ◌+◌, ◌<◌, List, [], ◌∷◌, ◌++◌, get_or, length, replicate, take, Bool, true, false, cond, drop, not, Option, Some, None, bytes_eq, refl, sym, ap, ap₂, subst, arith}
 use Rattle.std.specs.Prelude.{◌&&◌, ◌||◌, ◌==◌, is_some}
 use Rattle.std.specs.BTreeMap.{BTreeMap, IsEmpty, Updates, get, is_at}
 use Rattle.std.specs.List.{list_all, list_any}
@@ -7,28 +7,28 @@ use Rattle.std.specs.Map.{keys_of, lookup}
 use Rattle.std.specs.Ordering.{is_eq, nat_cmp}
 use Rattle.std.proofs.lemmas.Bool.{eq-eqb, eqb-false, eqb-true}
 use Rattle.std.proofs.Math.Seq.{drop-cons}
-use Rattle.std.proofs.lemmas.List.{length_push, take_more}
+use Rattle.std.proofs.lemmas.List.{take_more}
 use Rattle.std.proofs.lemmas.List.Folds.{list_any-append}
 use Rattle.std.proofs.lemmas.Map.Lookups.{exact_unsigned}
 use Rattle.std.proofs.lemmas.Slice.Eq.{bytes_eq-Decides}
 use Rattle.document_links.specs.declared.process.Step.{Step}
 use Rattle.plain_data.specs.ByName.{value_at, with_value}
-use Rattle.plain_data.proofs.Lookup.{name_itself, value_at-with_value}
-use Rattle.job_graph.specs.inner.Elements.{IsIn}
+use Rattle.job_graph.specs.inner.Elements.{IsIn, stands_in}
 use Rattle.job_graph.specs.Apart.{differ}
 use Rattle.job_graph.specs.Words.{Name, Fields, JobPlace}
 use Rattle.job_graph.specs.Jobs.{Outs}
-use Rattle.job_graph.specs.Links.{Env, out_under}
+use Rattle.job_graph.specs.Links.{Env}
 use Rattle.job_graph.specs.declared.made.Facts.{Facts}
+use Rattle.job_graph.specs.declared.readers.Readers.{Readers}
 use Rattle.job_graph.specs.declared.waiting.Going.{Going}
 use Rattle.job_graph.specs.declared.walk.Met.{Met as KeptMet}
-use Rattle.job_graph.specs.inner.Going.{AreKept, AreLookedAtBut, Goes, HoldsAt, IsKept, SameBut, WalksOn, WalksOne, WalksReaders, reads, reads_one, stands_in}
-use Rattle.job_graph.specs.inner.Rounds.{EnvGrows, Holds, MeetsBy, count, is_ready, is_stuck, walk_at}
+use Rattle.job_graph.specs.inner.Going.{AreKept, Goes, HasAbove, HoldsAt, IsKept, SameBut, WalksOne}
+use Rattle.job_graph.specs.inner.Rounds.{EnvGrows, Holds, MeetsBy, is_ready, is_stuck, walk_at}
 use Rattle.job_graph.specs.inner.Views.{made_from}
 use Rattle.job_graph.proofs.Index.{is_equal, itself}
-use Rattle.job_graph.proofs.laws_of_walks.Part.{and_left, and_right, neither_one, neither_other, stays_itself}
-use Rattle.job_graph.proofs.laws_of_walks.Reads.{same_but_one, stuck_stays}
-use Rattle.job_graph.proofs.laws_of_walks.Settled.{count_within, grows, grows_on, holds_then, meets_on, none_meet, one_more, ready_stays}
+use Rattle.job_graph.proofs.laws_of_walks.Part.{and_left, and_right, neither_one, neither_other}
+use Rattle.job_graph.proofs.laws_of_walks.Reads.{same_but_one}
+use Rattle.job_graph.proofs.laws_of_walks.Settled.{grows, grows_on, holds_then, meets_on, none_meet, ready_stays}
 
 -- ---- lists
 
@@ -50,14 +50,14 @@ all_true p (x ∷ xs) all = ap₂ (λ (a b : Bool). a && b) (all x (inl refl)) (
 pub front_more : {X : Type 0} (xs : List X) (i : ℕ) (x : X) → i < length xs → x ≡ get_or xs i x → take (i + 1) xs ≡ take i xs ++ x ∷ []
 front_more xs i x below is = take_more xs i x below ∙ ap (λ y. take i xs ++ y ∷ []) (sym is)
 
-any_more : {X : Type 0} (p : X → Bool) (xs : List X) (x : X) → list_any p xs ≡ true → list_any p (xs ++ x ∷ []) ≡ true
+pub any_more : {X : Type 0} (p : X → Bool) (xs : List X) (x : X) → list_any p xs ≡ true → list_any p (xs ++ x ∷ []) ≡ true
 any_more p xs x is = list_any-append p xs (x ∷ []) ∙ ap (λ (b : Bool). b || list_any p (x ∷ [])) is
 
 pub or_true : (a b : Bool) → b ≡ true → (a || b) ≡ true
 or_true true b is = refl
 or_true false b is = is
 
-any_last : {X : Type 0} (p : X → Bool) (xs : List X) (x : X) → p x ≡ true → list_any p (xs ++ x ∷ []) ≡ true
+pub any_last : {X : Type 0} (p : X → Bool) (xs : List X) (x : X) → p x ≡ true → list_any p (xs ++ x ∷ []) ≡ true
 any_last p xs x is = list_any-append p xs (x ∷ []) ∙ or_true (list_any p xs) (list_any p (x ∷ [])) (ap (λ (b : Bool). b || false) is)
 
 -- the last one, first
@@ -160,32 +160,8 @@ free_ready false true free = refl
 free_ready false false free = absurd cc
 
 module _ (facts : Facts) (place : JobPlace) (inputs : Fields) (steps : List (Name × Step)) (apart : differ (keys_of steps) ≡ true) where
-  -- none yet
-  pub walks_none : (going : Going) → HoldsAt facts place inputs steps going.env going.met → WalksOn facts place inputs steps going going
-  walks_none going holds = record {
-    holds = holds;
-    grown = λ step name. stays_itself (out_under name (value_at step going.env));
-    same = λ id none. refl;
-    changed = λ id is. is;
-    slots = λ kept. kept;
-    fewer = omega arith;
-  }
-
-  -- after the old ones, others
-  pub goes_further : (old : Env) (going new : Going) → Goes facts place inputs steps old going → WalksOn facts place inputs steps going new → Goes facts place inputs steps old new
-  goes_further old going new goes on = record {
-    holds = on.holds;
-    grown = grows_on facts place inputs steps old going.env new.env goes.grown on.grown;
-    same = λ id none. on.same id none ∙ goes.same id (by id (list_any (bytes_eq id) going.changed) refl none);
-    slots = on.slots goes.slots;
-  }
-    where
-      by : (id : Name) (b : Bool) → list_any (bytes_eq id) going.changed ≡ b → list_any (bytes_eq id) new.changed ≡ false → list_any (bytes_eq id) going.changed ≡ false
-      by id true is none = let both : false ≡ true = sym none ∙ on.changed id is in absurd cc
-      by id false is none = is
-
-  module _ (old cur new : Going) (on : WalksOn facts place inputs steps old cur) (n : ℕ) (t : Name × Step) (inside : n < length steps) (here_is : t ≡ get_or steps n t)
-      (free : is_stuck cur.env t ≡ false) (one : WalksOne facts place inputs t n cur new) where
+  module _ (readers : Readers) (old : Env) (cur new : Going) (goes : Goes facts place inputs steps old cur) (n : ℕ) (t : Name × Step) (inside : n < length steps) (here_is : t ≡ get_or steps n t)
+      (free : is_stuck cur.env t ≡ false) (one : WalksOne facts place inputs readers t n cur new) where
     abbrev outs : Outs
     outs = (walk_at facts place inputs cur.env t).outs
 
@@ -194,9 +170,9 @@ module _ (facts : Facts) (place : JobPlace) (inputs : Fields) (steps : List (Nam
     none = replicate (length steps) None
 
     as_held : Holds facts place inputs steps cur.env none
-    as_held = record { keeps = on.holds.keeps; met = none_meet facts place inputs steps cur.env steps }
+    as_held = record { keeps = goes.holds.keeps; met = none_meet facts place inputs steps cur.env steps }
 
-    grown_one : EnvGrows cur.env (with_value t.0 outs cur.env)
+    pub grown_one : EnvGrows cur.env (with_value t.0 (walk_at facts place inputs cur.env t).outs cur.env)
     grown_one = grows facts place inputs steps apart cur.env none n t inside here_is free as_held
 
     ready_one : is_ready (with_value t.0 outs cur.env) t.1 ≡ true
@@ -209,61 +185,38 @@ module _ (facts : Facts) (place : JobPlace) (inputs : Fields) (steps : List (Nam
     met_now m s below at =
         put_each cur.met new.met n one.met one.kept (λ (k : ℕ) (slot : Option (List KeptMet)). (u : Name × Step) → k < length steps → u ≡ get_or steps k u → MeetsBy facts place inputs later u slot)
         (λ u within there. subst (λ (v : Name × Step). MeetsBy facts place inputs later v (Some one.met)) (same_at steps n t u inside here_is there) (meets_on facts place inputs steps cur.env later grown_one t (Some one.met) (free_ready (is_some (value_at t.0 cur.env)) (is_ready cur.env t.1) free, one.is)))
-        m (λ other u within there. meets_on facts place inputs steps cur.env later grown_one u (get nat_cmp cur.met m) (on.holds.met m u within there)) s below at
+        m (λ other u within there. meets_on facts place inputs steps cur.env later grown_one u (get nat_cmp cur.met m) (goes.holds.met m u within there)) s below at
 
     within_now : (m : ℕ) → is_some (get nat_cmp new.met m) ≡ true → m < length steps
     within_now m =
-        put_each cur.met new.met n one.met one.kept (λ (k : ℕ) (slot : Option (List KeptMet)). is_some slot ≡ true → k < length steps) (λ some. inside) m (λ other. on.holds.within m)
+        put_each cur.met new.met n one.met one.kept (λ (k : ℕ) (slot : Option (List KeptMet)). is_some slot ≡ true → k < length steps) (λ some. inside) m (λ other. goes.holds.within m)
 
     holds_now : HoldsAt facts place inputs steps new.env new.met
     holds_now =
         subst (λ (env : Env). HoldsAt facts place inputs steps env new.met) (sym one.env)
         (record { keeps = (holds_then facts place inputs steps apart cur.env none n t inside here_is free as_held one.met one.is).keeps; met = met_now; within = within_now })
 
-    grown_now : EnvGrows old.env new.env
-    grown_now = grows_on facts place inputs steps old.env cur.env new.env on.grown (subst (EnvGrows cur.env) (sym one.env) grown_one)
-
-    same_now : SameBut new.changed old.env new.env
+    same_now : SameBut new.changed old new.env
     same_now = λ id none.
         let parts : (list_any (bytes_eq id) cur.changed || (bytes_eq id t.0 || false)) ≡ false =
         sym (ap (list_any (bytes_eq id)) one.changed ∙ list_any-append (bytes_eq id) cur.changed (t.0 ∷ [])) ∙ none in
         ap (value_at id) one.env
         ∙ same_but_one t.0 outs cur.env id (neither_other (list_any (bytes_eq id) cur.changed) (bytes_eq id t.0 || false) parts)
-        ∙ on.same id (neither_one (list_any (bytes_eq id) cur.changed) (bytes_eq id t.0 || false) parts)
+        ∙ goes.same id (neither_one (list_any (bytes_eq id) cur.changed) (bytes_eq id t.0 || false) parts)
 
-    more_now : count cur.env steps < count new.env steps
-    more_now =
-        subst (λ (env : Env). count cur.env steps < count env steps) (sym one.env)
-        (one_more facts place inputs steps apart cur.env none n t inside here_is free as_held)
+    pub goes_more : Goes facts place inputs steps old new
+    goes_more = record {
+      holds = holds_now;
+      grown = grows_on facts place inputs steps old cur.env new.env goes.grown (subst (EnvGrows cur.env) (sym one.env) grown_one);
+      same = same_now;
+      slots = subst (λ (ids : List Name). AreKept ids steps new.met) (sym one.changed) (kept_put cur.changed steps apart cur.met new.met n t one.met one.kept inside here_is goes.slots);
+    }
 
-    pub walks_more : WalksOn facts place inputs steps old new
-    walks_more =
-        let pending : length new.pending ≡ length cur.pending + 1 = ap length one.pending ∙ length_push cur.pending t.0 in
-        record {
-          holds = holds_now;
-          grown = grown_now;
-          same = same_now;
-          changed = λ id is. ap (list_any (bytes_eq id)) one.changed ∙ any_more (bytes_eq id) cur.changed t.0 (on.changed id is);
-          slots = λ kept. subst (λ (ids : List Name). AreKept ids steps new.met) (sym one.changed) (kept_put cur.changed steps apart cur.met new.met n t one.met one.kept inside here_is (on.slots kept));
-          fewer = omega (arith, on.fewer, more_now, pending, count_within new.env steps);
-        }
+    -- what was changed is among what is changed
+    pub above_more : (ended : JobPlace) → HasAbove ended old steps cur.changed → HasAbove ended old steps new.changed
+    above_more ended above = λ s among goes some. ap (list_any (bytes_eq s.0)) one.changed ∙ any_more (bytes_eq s.0) cur.changed t.0 (above s among goes some)
 
-    -- those that read it are still to be looked at
-    pub left_now : (row : List ℕ) → AreLookedAtBut row cur.env cur.pending steps → AreLookedAtBut row new.env new.pending steps
-    left_now row left = λ m s below at. subst₂ (λ (env : Env) (ids : List Name). (is_stuck env s ≡ true) ⊎ ((reads_one ids s.1 ≡ true) ⊎ (stands_in m row ≡ true))) (sym one.env) (sym one.pending)
-        (⊎_elim (λ stuck. by s (reads t.0 s.1) refl stuck) (λ others. ⊎_elim (λ reading. inr (inl (any_more (λ (id : Name). reads id s.1) cur.pending t.0 reading))) (λ there. inr (inr there)) others) (left m s below at))
-      where
-        by : {Left : Type 0} (s : Name × Step) (b : Bool) → reads t.0 s.1 ≡ b → is_stuck cur.env s ≡ true → (is_stuck later s ≡ true) ⊎ ((reads_one (cur.pending ++ t.0 ∷ []) s.1 ≡ true) ⊎ Left)
-        by s true is stuck = inr (inl (any_last (λ (id : Name). reads id s.1) cur.pending t.0 is))
-        by s false is stuck = inl (stuck_stays t.0 outs cur.env s is stuck)
-
-    pub walked_now : is_stuck new.env t ≡ true
-    walked_now =
-        ap (λ (env : Env). is_stuck env t) one.env
-        ∙ ap (λ (o : Option Outs). is_some o || not (is_ready later t.1))
-        (value_at-with_value t.0 t.0 outs cur.env ∙ ap (λ (b : Bool). cond b (Some outs) (value_at t.0 cur.env)) (name_itself t.0))
-
--- ---- those that read one step
+-- ---- numbers in a row
 
 pub stands_at : (row : List ℕ) (i : ℕ) → i < length row → stands_in (get_or row i 0) row ≡ true
 stands_at [] i below = absurd (omega (arith, below))
@@ -272,46 +225,3 @@ stands_at (n ∷ ns) (suc i) below = let less : i < length ns = omega (arith, be
 
 pub drop_next : {X : Type 0} (xs : List X) (i : ℕ) (x : X) → i < length xs → drop i xs ≡ get_or xs i x ∷ drop (i + 1) xs
 drop_next xs i x below = let next : suc i ≡ i + 1 = omega arith in drop-cons xs i x below ∙ ap (λ (n : ℕ). get_or xs i x ∷ drop n xs) next
-
--- the rest are left
-pub record Reading (facts : Facts) (place : JobPlace) (inputs : Fields) (steps : List (Name × Step)) (old : Going) (rest : List ℕ) (cur : Going) : Type 0 where
-  pub on : WalksOn facts place inputs steps old cur
-  pub left : AreLookedAtBut rest cur.env cur.pending steps
-
-module _ (facts : Facts) (place : JobPlace) (inputs : Fields) (steps : List (Name × Step)) (apart : differ (keys_of steps) ≡ true) (old : Going) where
-  abbrev ReadingTo : List ℕ → Going → Type 0
-  ReadingTo = Reading facts place inputs steps old
-
-  pub reading_first : (row : List ℕ) → HoldsAt facts place inputs steps old.env old.met → AreLookedAtBut row old.env old.pending steps → ReadingTo row old
-  reading_first row holds left = record { on = walks_none facts place inputs steps apart old holds; left = left }
-
-  -- one that is stuck is past
-  past_one : (n : ℕ) (rest : List ℕ) (cur : Going) (t : Name × Step) → n < length steps → t ≡ get_or steps n t → is_stuck cur.env t ≡ true
-      → AreLookedAtBut (n ∷ rest) cur.env cur.pending steps → AreLookedAtBut rest cur.env cur.pending steps
-  past_one n rest cur t inside here_is stuck left = λ m s below at. ⊎_elim (λ is. inl is) (λ others. ⊎_elim (λ reading. inr (inl reading)) (λ there. by m s at (n == m) refl there) others) (left m s below at)
-    where
-      by : (m : ℕ) (s : Name × Step) → s ≡ get_or steps m s → (b : Bool) → (n == m) ≡ b → ((n == m) || stands_in m rest) ≡ true → (is_stuck cur.env s ≡ true) ⊎ ((reads_one cur.pending s.1 ≡ true) ⊎ (stands_in m rest ≡ true))
-      by m s at true same there =
-          inl (ap (is_stuck cur.env) (same_at steps n s t inside (subst (λ (k : ℕ). s ≡ get_or steps k s) (sym (eqb-true n m same)) at) here_is) ∙ stuck)
-      by m s at false other there = inr (inr (sym (ap (λ (b : Bool). b || stands_in m rest) other) ∙ there))
-
-  module _ (n : ℕ) (rest : List ℕ) (cur : Going) (t : Name × Step) (inside : n < length steps) (here_is : t ≡ get_or steps n t) (reading : ReadingTo (n ∷ rest) cur) where
-    pub reading_walked : (new : Going) → is_stuck cur.env t ≡ false → WalksOne facts place inputs t n cur new → ReadingTo rest new
-    reading_walked new free one = record {
-      on = walks_more facts place inputs steps apart old cur new reading.on n t inside here_is free one;
-      left = past_one n rest new t inside here_is (walked_now facts place inputs steps apart old cur new reading.on n t inside here_is free one)
-          (left_now facts place inputs steps apart old cur new reading.on n t inside here_is free one (n ∷ rest) reading.left);
-    }
-
-    pub reading_past : is_stuck cur.env t ≡ true → ReadingTo rest cur
-    reading_past stuck = record { on = reading.on; left = past_one n rest cur t inside here_is stuck reading.left }
-
-  pub reading_done : (cur : Going) → ReadingTo [] cur → WalksReaders facts place inputs steps old cur
-  reading_done cur reading = record {
-    on = reading.on;
-    looked = λ s among. let there : (n : ℕ) × ((n < length steps) × (s ≡ get_or steps n s)) = number_in s steps among in
-        ⊎_elim (λ stuck. inl stuck) (λ others. ⊎_elim (λ reads. inr reads) (λ none. absurd (no_one none)) others) (reading.left there.0 s there.1.0 there.1.1);
-  }
-    where
-      no_one : false ≡ true → ⊥
-      no_one is = cc

@@ -1,5 +1,5 @@
 -- What the steps of a workflow meet once others were walked, but for what was met before.
-use Rattle.std.proofs.Common.{◌≡◌, ◌∙◌, ◌⊎◌, inl, inr, ⊎_elim, ℕ, ◌<◌, List, [], ◌∷◌, ◌++◌, get_or, length, map, Bool, true, false, not, Option, Some, None, bytes_eq, refl, sym, ap, subst, subst₂}
+use Rattle.std.proofs.Common.{◌≡◌, ◌∙◌, ◌⊎◌, inl, inr, ℕ, ◌<◌, List, [], ◌∷◌, ◌++◌, get_or, length, map, Bool, true, false, not, Option, Some, None, bytes_eq, refl, sym, ap, subst, subst₂}
 use Rattle.std.specs.Prelude.{◌||◌, is_some}
 use Rattle.std.specs.BTreeMap.{IsEmpty}
 use Rattle.std.specs.List.{flat_map, list_all, list_any}
@@ -8,7 +8,7 @@ use Rattle.std.proofs.lemmas.Slice.Eq.{bytes_eq-Decides}
 use Rattle.cwl_process.specs.declared.workflow.WorkflowOutput.{WorkflowOutput}
 use Rattle.document_links.specs.declared.process.Step.{Step}
 use Rattle.plain_data.specs.ByName.{value_at, with_value}
-use Rattle.job_graph.specs.inner.Elements.{IsIn}
+use Rattle.job_graph.specs.inner.Elements.{IsIn, stands_in}
 use Rattle.job_graph.specs.Apart.{differ, step_ids_differ}
 use Rattle.job_graph.specs.Words.{Name, Fields, JobPlace}
 use Rattle.job_graph.specs.Jobs.{Met, Outs, Walk}
@@ -18,17 +18,19 @@ use Rattle.job_graph.specs.declared.made.Facts.{Facts}
 use Rattle.job_graph.specs.declared.waiting.Going.{Going}
 use Rattle.job_graph.specs.declared.readers.Readers.{Readers}
 use Rattle.job_graph.specs.declared.walk.Met.{Met as KeptMet}
-use Rattle.job_graph.specs.inner.Going.{AreKept, AreLookedAt, AreLookedAtBut, EndedBelow, Goes, HasAbove, HasGone, HoldsAt, LeavesOut, leaves_nothing, leaves_in, leaves_out, WalksOn, WalksOne, WasMet, facts_before, goes_through, reads, reads_one, stands_in}
+use Rattle.job_graph.specs.inner.Counts.{IsCounted}
+use Rattle.job_graph.specs.inner.Going.{AreKept, EndedBelow, Goes, HasAbove, HasGone, HoldsAt, LeavesOut, leaves_nothing, leaves_in, leaves_out, WalksOne, WasMet, facts_before, goes_through, reads_one}
 use Rattle.job_graph.specs.inner.Levels.{steps_of, steps_walk}
-use Rattle.job_graph.specs.inner.Readers.{IsTableOf, row_of}
+use Rattle.job_graph.specs.inner.Readers.{IsTableOf}
 use Rattle.job_graph.specs.inner.Rounds.{EnvGrows, IsSettled, MeetsBy, StandsBy, is_ready, is_stuck, walk_at}
 use Rattle.job_graph.specs.inner.Views.{made_from, met_of}
 use Rattle.job_graph.proofs.Going.{grown_k, keeps_k, keeps_still, ready_k, walk_k}
-use Rattle.job_graph.proofs.GoingOn.{all_true, any_turned, kept_put, nothing_at, nothing_kept, put_each, same_at}
+use Rattle.job_graph.proofs.GoingOn.{kept_put, nothing_at, nothing_kept, put_each, same_at}
+use Rattle.job_graph.proofs.Pending.{GoesTo, walks_left}
 use Rattle.job_graph.proofs.SettledWalk.{settled_walk}
 use Rattle.job_graph.proofs.laws_of_walks.GoesOn.{step_alike}
 use Rattle.job_graph.proofs.laws_of_walks.Part.{stays_itself}
-use Rattle.job_graph.proofs.laws_of_walks.Reads.{entries_same, same_but_one, stuck_stays}
+use Rattle.job_graph.proofs.laws_of_walks.Reads.{entries_same, same_but_one}
 use Rattle.job_graph.proofs.laws_of_walks.Settled.{each_of, is_element, waits_walk, walk_by, walk_stays}
 
 -- ---- what is met, but for what was met before
@@ -149,9 +151,9 @@ not_so is = cc
 module _ (facts : Facts) (place ended : JobPlace) (below : EndedBelow facts place ended) (inputs : Fields) (steps : List (Name × Step))
     (apart : differ (keys_of steps) ≡ true) (inside : list_all (λ s. step_ids_differ s.1) steps ≡ true) (old : Env) (was : IsSettled (facts_before facts) place inputs steps old) where
   -- where no step that was walked is above the place
-  pub gone_none : (going : Going) → going.env ≡ old → IsEmpty going.met → going.changed ≡ [] → HasAbove ended old steps []
+  pub gone_none : (going : Going) → going.env ≡ old → IsEmpty going.met → going.changed ≡ [] → IsCounted old steps going.waits.counts.items → HasAbove ended old steps []
       → HasGone facts place inputs steps ended old going
-  gone_none going outs met changed none = record {
+  gone_none going outs met changed counted none = record {
     goes = record {
       holds = subst (λ (env : Env). HoldsAt facts place inputs steps env going.met) (sym outs)
           (record {
@@ -165,11 +167,12 @@ module _ (facts : Facts) (place ended : JobPlace) (below : EndedBelow facts plac
     };
     above = subst (HasAbove ended old steps) (sym changed) none;
     stuck = ap (λ (env : Env). list_all (is_stuck env) steps) outs ∙ was.stuck;
+    counted = subst (λ (env : Env). IsCounted env steps going.waits.counts.items) (sym outs) counted;
   }
 
   module _ (n : ℕ) (k : Name × Step) (inside_n : n < length steps) (here_is : k ≡ get_or steps n k) (through : goes_through ended k.0 ≡ true) (walked : is_some (value_at k.0 old) ≡ true)
-      (first next : Going) (outs : first.env ≡ old) (met : IsEmpty first.met) (changed : first.changed ≡ []) (pending : first.pending ≡ [])
-      (one : WalksOne facts place inputs k n first next) where
+      (readers : Readers) (table : IsTableOf readers steps) (first next : Going) (outs : first.env ≡ old) (met : IsEmpty first.met) (changed : first.changed ≡ []) (none : first.waits.pending ≡ [])
+      (counted : IsCounted first.env steps first.waits.counts.items) (one : WalksOne facts place inputs readers k n first next) where
     abbrev at_k : IsIn k steps
     at_k = is_element steps n k inside_n here_is
 
@@ -188,9 +191,6 @@ module _ (facts : Facts) (place ended : JobPlace) (below : EndedBelow facts plac
 
     changed_is : next.changed ≡ k.0 ∷ []
     changed_is = one.changed ∙ ap (λ (ids : List Name). ids ++ k.0 ∷ []) changed
-
-    pending_is : next.pending ≡ k.0 ∷ []
-    pending_is = one.pending ∙ ap (λ (ids : List Name). ids ++ k.0 ∷ []) pending
 
     meets_k : map met_of one.met ≡ (walk_at facts place inputs (with_value k.0 new old) k).met
     meets_k =
@@ -222,33 +222,18 @@ module _ (facts : Facts) (place ended : JobPlace) (below : EndedBelow facts plac
         by s [] one other = absurd cc
         by s (g ∷ rest) one other = (bytes_eq-Decides s.0 k.0).1 (sym ((bytes_eq-Decides g.step s.0).0 other) ∙ (bytes_eq-Decides g.step k.0).0 one)
 
-    pub looked_first : AreLookedAt next.env next.pending steps
-    looked_first = λ s among. subst₂ (λ (env : Env) (ids : List Name). (is_stuck env s ≡ true) ⊎ (reads_one ids s.1 ≡ true)) (sym env_is) (sym pending_is) (by s among (reads k.0 s.1) refl)
-      where
-        by : (s : Name × Step) → IsIn s steps → (b : Bool) → reads k.0 s.1 ≡ b → (is_stuck (with_value k.0 new old) s ≡ true) ⊎ ((reads k.0 s.1 || false) ≡ true)
-        by s among true is = inr (ap (λ (b : Bool). b || false) is)
-        by s among false is = inl (stuck_stays k.0 new old s is (each_of (is_stuck old) steps was.stuck s among))
+    grown_first : EnvGrows first.env (with_value k.0 (walk_at facts place inputs first.env k).outs first.env)
+    grown_first =
+        subst (λ (env : Env). EnvGrows env (with_value k.0 (walk_at facts place inputs env k).outs env)) (sym outs)
+        (grown_k facts place ended below inputs steps apart inside old was k at_k through found.0 found.1)
 
--- ---- the last ones
+    all_stuck_first : (m : ℕ) (s : Name × Step) → m < length steps → s ≡ get_or steps m s → (is_stuck first.env s ≡ true) ⊎ (stands_in m (n ∷ first.waits.pending) ≡ true)
+    all_stuck_first m s within at = inl (ap (λ (env : Env). is_stuck env s) outs ∙ each_of (is_stuck old) steps was.stuck s (is_element steps m s within at))
 
--- the last one is looked at next
-pub looked_next : (now : Env) (steps : List (Name × Step)) (pending rest : List Name) (id : Name) → pending ≡ rest ++ id ∷ [] → AreLookedAt now pending steps → AreLookedAt now (id ∷ rest) steps
-looked_next now steps pending rest id is looked = λ s among.
-    ⊎_elim (λ stuck. inl stuck) (λ some. inr (any_turned (λ (id : Name). reads id s.1) rest id (sym (ap (λ (ids : List Name). reads_one ids s.1) is) ∙ some))) (looked s among)
-
--- those that read it are under its id
-pub looked_by : (now : Env) (steps : List (Name × Step)) (readers : Readers) → IsTableOf readers steps → (rest : List Name) (id : Name) → AreLookedAt now (id ∷ rest) steps → AreLookedAtBut (row_of id readers.rows) now rest steps
-looked_by now steps readers table rest id looked = λ n s within at. ⊎_elim (λ stuck. inl stuck) (λ some. by n s within at (reads id s.1) refl some) (looked s (is_element steps n s within at))
-  where
-    by : (n : ℕ) (s : Name × Step) → n < length steps → s ≡ get_or steps n s → (b : Bool) → reads id s.1 ≡ b → (reads id s.1 || reads_one rest s.1) ≡ true
-        → (is_stuck now s ≡ true) ⊎ ((reads_one rest s.1 ≡ true) ⊎ (stands_in n (row_of id readers.rows) ≡ true))
-    by n s within at true is some = inr (inr (table.whole id n s within at is))
-    by n s within at false is some = inr (inl (sym (ap (λ (b : Bool). b || reads_one rest s.1) is) ∙ some))
-
-pub all_stuck : (env : Env) (steps : List (Name × Step)) → AreLookedAt env [] steps → list_all (is_stuck env) steps ≡ true
-all_stuck env steps looked = all_true (is_stuck env) steps (λ s among. ⊎_elim (λ stuck. stuck) (λ none. absurd (not_so none)) (looked s among))
-
--- what was changed is among what is changed
-pub above_on : (facts : Facts) (place : JobPlace) (inputs : Fields) (steps : List (Name × Step)) (ended : JobPlace) (old : Env) (going later : Going)
-    → HasAbove ended old steps going.changed → WalksOn facts place inputs steps going later → HasAbove ended old steps later.changed
-above_on facts place inputs steps ended old going later above on = λ s among goes some. on.changed s.0 (above s among goes some)
+    pub goes_to_first : GoesTo facts place inputs steps ended old [] next
+    goes_to_first = record {
+      goes = goes_first;
+      above = above_first;
+      left = walks_left facts place inputs steps readers table first next n k inside_n here_is one grown_first
+          (record { counted = counted; pending = all_stuck_first; numbers = λ m stands. absurd (not_so (sym (ap (stands_in m) none) ∙ stands)) });
+    }

@@ -11,7 +11,7 @@ use Rattle.std.proofs.lemmas.Map.Keys.{below_from_sorted, sorted_tail}
 use Rattle.std.proofs.lemmas.Map.Lookups.{exact_unsigned}
 use Rattle.document_links.specs.declared.process.Step.{Step}
 use Rattle.plain_data.specs.ByName.{value_at}
-use Rattle.job_graph.specs.inner.Elements.{IsIn}
+use Rattle.job_graph.specs.inner.Elements.{IsIn, stands_in}
 use Rattle.job_graph.specs.Words.{Name, Fields, JobPlace}
 use Rattle.job_graph.specs.Equations.{step_walk}
 use Rattle.job_graph.specs.Jobs.{Met}
@@ -19,7 +19,7 @@ use Rattle.job_graph.specs.Links.{Env}
 use Rattle.job_graph.specs.declared.made.Facts.{Facts}
 use Rattle.job_graph.specs.declared.readers.Readers.{Readers}
 use Rattle.job_graph.specs.declared.walk.Met.{Met as KeptMet}
-use Rattle.job_graph.specs.inner.Going.{AreKept, AreRight, Hears, HearsOne, HoldsAt, IsKept, LeavesOut, WasMet, leaves_nothing, reads, reads_one, stands_in}
+use Rattle.job_graph.specs.inner.Going.{AreKept, AreRight, Hears, HearsOne, HoldsAt, IsKept, LeavesOut, WasMet, leaves_nothing, reads, reads_one}
 use Rattle.job_graph.specs.inner.Levels.{steps_of}
 use Rattle.job_graph.specs.inner.Readers.{IsTableOf, row_of}
 use Rattle.job_graph.specs.inner.Rounds.{MeetsBy, walk_at}

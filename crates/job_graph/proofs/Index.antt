@@ -14,7 +14,7 @@ use Rattle.std.proofs.lemmas.Cmp.{nat_cmp_total, tied_itself}
 use Rattle.std.proofs.lemmas.Map.Lookups.{exact_unsigned}
 use Rattle.job_graph.specs.declared.made.Resolved.{Resolved as KeptResolved}
 use Rattle.job_graph.specs.Words.{JobPlace, is_same_place}
-use Rattle.job_graph.specs.KnownJobs.{jobs_in}
+use Rattle.job_graph.specs.KnownJobs.{jobs_in, number_at}
 use Rattle.job_graph.specs.Unfold.{Resolved, outputs_at, is_at as at_job}
 use Rattle.job_graph.specs.declared.growth.KnownJob.{KnownJob}
 use Rattle.job_graph.specs.inner.Index.{AreApart, IsFirst, IsIndexed, IsNumberAt, at_known, at_learned, before, has_mark}
@@ -227,6 +227,38 @@ one_number_at known place apart (Some m) is at = λ n k below here same.
     let one_place : k.job.place ≡ place = same_place k.job.place place same in
     let other_place : other.0.job.place ≡ place = same_place other.0.job.place place (at.1 other.0 other.1) in
     ap Some (sym (apart n m k other.0 below here at.0 other.1 (subst (λ (p : JobPlace). is_same_place k.job.place p ≡ true) (sym other_place) same)))
+
+-- the first of the known jobs at a place has its number
+abbrev Numbered : List KnownJob → JobPlace → Option ℕ → Type 0
+Numbered known place None = list_any (at_job place) (jobs_in known) ≡ false
+Numbered known place (Some n) = (k : KnownJob) × ((n < length known) × ((k ≡ get_or known n k) × (is_same_place k.job.place place ≡ true)))
+
+numbered : (known : List KnownJob) (place : JobPlace) → Numbered known place (number_at place (jobs_in known))
+numbered [] place = refl
+numbered (x ∷ xs) place = by (numbered xs place) (is_same_place x.job.place place) refl
+  where
+    later : is_same_place x.job.place place ≡ false → (o : Option ℕ) → Numbered xs place o → Numbered (x ∷ xs) place (option_map suc o)
+    later is None none = ap (λ (b : Bool). b || list_any (at_job place) (jobs_in xs)) is ∙ none
+    later is (Some n) at = (at.0, (omega (arith, at.1.0), (at.1.1.0, at.1.1.1)))
+
+    by : Numbered xs place (number_at place (jobs_in xs)) → (b : Bool) → is_same_place x.job.place place ≡ b → Numbered (x ∷ xs) place (cond (is_same_place x.job.place place) (Some 0) (option_map suc (number_at place (jobs_in xs))))
+    by rest true is =
+        let P : Bool → Type 0 = λ b. Numbered (x ∷ xs) place (cond b (Some 0) (option_map suc (number_at place (jobs_in xs)))) in
+        subst P (sym is) (x, (omega arith, (refl, is)))
+    by rest false is =
+        let P : Bool → Type 0 = λ b. Numbered (x ∷ xs) place (cond b (Some 0) (option_map suc (number_at place (jobs_in xs)))) in
+        subst P (sym is) (later is (number_at place (jobs_in xs)) rest)
+
+pub number_is : (known : List KnownJob) (place : JobPlace) (found : Option ℕ) → is_some found ≡ list_any (at_job place) (jobs_in known) → IsNumberAt place known found → found ≡ number_at place (jobs_in known)
+number_is known place found some one = by (number_at place (jobs_in known)) refl (numbered known place)
+  where
+    nothing : (o : Option ℕ) → is_some o ≡ false → o ≡ None
+    nothing None is = refl
+    nothing (Some n) is = absurd (not_both true refl is)
+
+    by : (o : Option ℕ) → number_at place (jobs_in known) ≡ o → Numbered known place o → found ≡ number_at place (jobs_in known)
+    by None e none = nothing found (some ∙ none) ∙ sym e
+    by (Some n) e at = one n at.0 at.1.0 at.1.1.0 at.1.1.1 ∙ sym e
 
 pub none_apart : (known : List KnownJob) → known ≡ [] → AreApart known
 none_apart known none = λ n m s t below at within there same. let no : length known ≡ 0 = ap length none in absurd (omega (arith, no, below))

@@ -1,5 +1,6 @@
 -- How a walk goes into a step, by the code's own words.
 use Rattle.std.proofs.Common.{◌≡◌, ◌∙◌, ◌⊎◌, inl, inr, ℕ, ◌+◌, ◌<◌, List, [], ◌∷◌, ◌++◌, drop, get_or, length, map, true, Option, Some, None, Result, Ok, Err, sym, ap, subst, subst₂, arith}
+use Rattle.std.specs.Global.{Vec}
 use Rattle.std.specs.Prelude.{IfOk, IfSome, is_some, reverse}
 use Rattle.std.specs.List.{list_all}
 use Rattle.std.specs.Map.{keys_of}
@@ -26,10 +27,11 @@ use Rattle.job_graph.specs.declared.nested.Inner.{Inner}
 use Rattle.job_graph.specs.declared.nested.Nested.{Nested}
 use Rattle.job_graph.specs.declared.readers.Readers.{Readers}
 use Rattle.job_graph.specs.declared.walk.Walk.{Walk as KeptWalk}
-use Rattle.job_graph.specs.declared.workflow.Walked.{Walked}
+use Rattle.job_graph.specs.declared.waiting.Counted.{Counted}
 use Rattle.job_graph.specs.inner.Going.{EndedBelow, IsAbove, LeavesOut, facts_before, goes_through}
 use Rattle.job_graph.specs.inner.Levels.{steps_of, steps_walk}
 use Rattle.job_graph.specs.inner.Nested.{BeginsAs, GoesDeeper, GoesOnIn, HasBegun, HasInner, IsFound, KeepsAlong, NestedMeet, SettledIn, inner_walk}
+use Rattle.job_graph.specs.inner.Counts.{IsCounted}
 use Rattle.job_graph.specs.inner.Readers.{IsTableOf}
 use Rattle.job_graph.specs.inner.Rounds.{IsSettled}
 use Rattle.job_graph.specs.inner.Views.{met_of, walk_of}
@@ -86,22 +88,23 @@ form_is p w is = ap out-Process is ∙ ap out-Process (sym (rolls-Workflow w)) �
 -- what is kept of it, at its place
 pub settled_at : (facts : Facts) (own here : JobPlace) → own ≡ here → (p : Process) (w : Workflow) → p ≡ process.Workflow w → (one : Nested) (deeper : List Nested)
     → SettledIn facts here (out-Process p) one deeper → IsSettled facts own one.inputs (out-Workflow w).steps one.env × KeepsAlong facts own one.inputs (out-Workflow w).steps one.env deeper
-    × IsTableOf one.readers (out-Workflow w).steps
+    × IsTableOf one.readers (out-Workflow w).steps × IsCounted one.env (out-Workflow w).steps one.counts.items
 settled_at facts own here same p w is one deeper settled =
     subst (λ (place : JobPlace). IsSettled facts place one.inputs (out-Workflow w).steps one.env × KeepsAlong facts place one.inputs (out-Workflow w).steps one.env deeper
-    × IsTableOf one.readers (out-Workflow w).steps) (sym same)
+    × IsTableOf one.readers (out-Workflow w).steps × IsCounted one.env (out-Workflow w).steps one.counts.items) (sym same)
     (subst (λ (form : Process-F Process Step Workflow). SettledIn facts here form one deeper) (form_is p w is) settled)
 
-abbrev kept_as : ℕ → List ℕ → Fields → Readers → Env → Nested
-kept_as number tuple inputs readers env = record { number = number; tuple = tuple; inputs = inputs; readers = readers; env = env }
+abbrev kept_as : ℕ → List ℕ → Fields → Readers → Env → Vec ℕ → Nested
+kept_as number tuple inputs readers env counts = record { number = number; tuple = tuple; inputs = inputs; readers = readers; env = env; counts = counts }
 
 -- it went on
 pub gone_where : (facts : Facts) (own : JobPlace) (w : Workflow) (one : Nested) (deeper : Deeper) → GoesDeeper facts own one.inputs (out-Workflow w).outputs (out-Workflow w).steps deeper
     → (inner : Inner) → inner.walk ≡ deeper.walk
-    → reverse inner.nested ≡ record { number = one.number; tuple = one.tuple; inputs = one.inputs; readers = one.readers; env = deeper.env } ∷ reverse deeper.nested
+    → reverse inner.nested ≡ record { number = one.number; tuple = one.tuple; inputs = one.inputs; readers = one.readers; env = deeper.env; counts = deeper.counts } ∷ reverse deeper.nested
     → GoesOnIn facts own (Process-F.Workflow w) one inner
 gone_where facts own w one deeper goes inner walk is = record {
   env = deeper.env;
+  counts = deeper.counts;
   deeper = reverse deeper.nested;
   is = is;
   gone = record {
@@ -109,6 +112,7 @@ gone_where facts own w one deeper goes inner walk is = record {
     leaves = subst
         (λ (x : KeptWalk). LeavesOut (inner_walk w own one.inputs (facts_before facts)).met (map met_of x.met) (inner_walk w own one.inputs facts).met) (sym walk) goes.met;
     settled = goes.env;
+    counted = goes.counted;
     along = goes.along;
   };
 }
@@ -116,37 +120,39 @@ gone_where facts own w one deeper goes inner walk is = record {
 -- it began
 pub begun_where : (facts : Facts) (own : JobPlace) (w : Workflow) (given inputs : Fields) → workflow_inputs_for facts.measures (out-Workflow w).inputs given ≡ Ok inputs
     → (walk : KeptWalk) → walk_of walk ≡ inner_walk w own inputs facts → (env : Env) → IsSettled facts own inputs (out-Workflow w).steps env
-    → (readers : Readers) → IsTableOf readers (out-Workflow w).steps
-    → (number : ℕ) (tuple : List ℕ) (inner : Inner) → inner.walk ≡ walk → reverse inner.nested ≡ record { number = number; tuple = tuple; inputs = inputs; readers = readers; env = env } ∷ []
+    → (readers : Readers) → IsTableOf readers (out-Workflow w).steps → (counts : Vec ℕ) → IsCounted env (out-Workflow w).steps counts.items
+    → (number : ℕ) (tuple : List ℕ) (inner : Inner) → inner.walk ≡ walk → reverse inner.nested ≡ record { number = number; tuple = tuple; inputs = inputs; readers = readers; env = env; counts = counts } ∷ []
     → HasBegun facts own (Process-F.Workflow w) given number tuple inner
-begun_where facts own w given inputs hands walk whole env settled readers table number tuple inner same is = record {
+begun_where facts own w given inputs hands walk whole env settled readers table counts counted number tuple inner same is = record {
   inputs = inputs;
   readers = readers;
   env = env;
+  counts = counts;
   is = is;
-  begun = record { hands = hands; whole = ap walk_of same ∙ whole; settled = settled; table = table };
+  begun = record { hands = hands; whole = ap walk_of same ∙ whole; settled = settled; table = table; counted = counted };
 }
 
 -- ---- the same by the code's own words
 
 pub went_on : (facts : Facts) (own here : JobPlace) → own ≡ here → (p : Process) (w : Workflow) → p ≡ process.Workflow w
     → (outputs : List (Name × WorkflowOutput)) → outputs ≡ (out-Workflow w).outputs → (one : Nested) (deeper : Deeper) → GoesDeeper facts own one.inputs outputs (out-Workflow w).steps deeper
-    → (inner : Inner) → inner.walk ≡ deeper.walk → reverse inner.nested ≡ kept_as one.number one.tuple one.inputs one.readers deeper.env ∷ reverse deeper.nested
+    → (inner : Inner) → inner.walk ≡ deeper.walk → reverse inner.nested ≡ kept_as one.number one.tuple one.inputs one.readers deeper.env deeper.counts ∷ reverse deeper.nested
     → GoesOnIn facts here (out-Process p) one inner
 went_on facts own here at p w is outputs same one deeper goes inner walk nested =
     subst₂ (λ (place : JobPlace) (form : Process-F Process Step Workflow). GoesOnIn facts place form one inner) at (sym (form_is p w is))
     (gone_where facts own w one deeper (subst (λ (these : List (Name × WorkflowOutput)). GoesDeeper facts own one.inputs these (out-Workflow w).steps deeper) same goes) inner walk nested)
 
 pub began : (facts : Facts) (own : JobPlace) (w : Workflow) (given inputs : Fields) → workflow_inputs_for facts.measures (out-Workflow w).inputs given ≡ Ok inputs
-    → (outputs : List (Name × WorkflowOutput)) → outputs ≡ (out-Workflow w).outputs → (walked : Walked) → walk_of walked.walk ≡ steps_walk outputs (steps_of facts (out-Workflow w).steps) own inputs
-    → IsSettled facts own inputs (out-Workflow w).steps walked.env → (none : List Nested) → none ≡ [] → (deeper : Deeper) → deeper ≡ record { walk = walked.walk; env = walked.env; nested = none }
+    → (outputs : List (Name × WorkflowOutput)) → outputs ≡ (out-Workflow w).outputs → (walked : Counted) → walk_of walked.walk ≡ steps_walk outputs (steps_of facts (out-Workflow w).steps) own inputs
+    → IsSettled facts own inputs (out-Workflow w).steps walked.env → IsCounted walked.env (out-Workflow w).steps walked.counts.items → (none : List Nested) → none ≡ []
+    → (deeper : Deeper) → deeper ≡ record { walk = walked.walk; env = walked.env; counts = walked.counts; nested = none }
     → (readers : Readers) → IsTableOf readers (out-Workflow w).steps
-    → (number : ℕ) (tuple : List ℕ) (inner : Inner) → inner.walk ≡ deeper.walk → reverse inner.nested ≡ kept_as number tuple inputs readers deeper.env ∷ reverse deeper.nested
+    → (number : ℕ) (tuple : List ℕ) (inner : Inner) → inner.walk ≡ deeper.walk → reverse inner.nested ≡ kept_as number tuple inputs readers deeper.env deeper.counts ∷ reverse deeper.nested
     → BeginsAs facts own w given number tuple inner
-began facts own w given inputs hands outputs same walked whole settled none empty deeper is readers table number tuple inner walk nested =
+began facts own w given inputs hands outputs same walked whole settled counted none empty deeper is readers table number tuple inner walk nested =
     begun_where facts own w given inputs hands walked.walk (whole ∙ ap (λ (these : List (Name × WorkflowOutput)). steps_walk these (steps_of facts (out-Workflow w).steps) own inputs) same)
-    walked.env settled readers table number tuple inner (walk ∙ ap (λ (d : Deeper). d.walk) is)
-    (nested ∙ ap (λ (d : Deeper). kept_as number tuple inputs readers d.env ∷ reverse d.nested) is ∙ ap (λ (these : List Nested). kept_as number tuple inputs readers walked.env ∷ reverse these) empty)
+    walked.env settled readers table walked.counts counted number tuple inner (walk ∙ ap (λ (d : Deeper). d.walk) is)
+    (nested ∙ ap (λ (d : Deeper). kept_as number tuple inputs readers d.env d.counts ∷ reverse d.nested) is ∙ ap (λ (these : List Nested). kept_as number tuple inputs readers walked.env walked.counts ∷ reverse these) empty)
 
 -- ---- what is found
 

@@ -1,6 +1,7 @@
 mod Above
 mod Ahead
 mod AheadOf
+mod Counting
 mod Flags
 pub mod Graphs
 mod Gathering
@@ -16,6 +17,7 @@ pub mod Knowing
 mod KeptFault
 pub mod Limits
 mod Loops
+mod Lowering
 mod Marks
 mod MetMore
 mod Needed
@@ -25,6 +27,7 @@ mod OneTuple
 mod OpenKept
 mod Noting
 mod Once
+mod Pending
 mod Outs
 mod Vertices
 mod Quotients

@@ -31,6 +31,7 @@ use Rattle.job_graph.specs.inner.Going.{EndedBelow, LeavesOut, leaves_nothing, l
 use Rattle.job_graph.specs.inner.Levels.{step_of, steps_of}
 use Rattle.job_graph.specs.inner.Nested.{GoesOnIn, Hands, HandsBy, HasBegun, HasGone, HasInner, IsBegun, IsFound, IsInner, IsInside, KeepsAlong, KeepsOne, MayKeep, NestedMeet, OfWorkflow, SettledIn, facts_with, inner_walk}
 use Rattle.job_graph.specs.inner.OneTuple.{GoesAt, HasAll, HoldsBack, StaysBy, StaysWith, StepMeets, StepsMeet, count_known, lacks, mets_for, one_if, times, walk_for}
+use Rattle.job_graph.specs.inner.Counts.{IsCounted}
 use Rattle.job_graph.specs.inner.Readers.{IsTableOf}
 use Rattle.job_graph.specs.inner.Rounds.{EnvGrows, IsSettled, StandsBy, is_ready, walk_at}
 use Rattle.job_graph.specs.inner.Views.{made_from, met_of}
@@ -207,7 +208,7 @@ module _ (facts : Facts) (place : JobPlace) (inputs : Fields) (env : Env) (s : N
       → StepMeets facts place inputs env s (map met_of inner.walk.met)
   step_meets stands stays = by (out-Process (out-Step s.1).process) has.holds
     where
-      by : (p : Process-F Process Step Workflow) → OfWorkflow (λ w. IsInner facts place inputs env s w tuple has.own has.readers has.own_env has.deeper inner.walk) p
+      by : (p : Process-F Process Step Workflow) → OfWorkflow (λ w. IsInner facts place inputs env s w tuple has.own has.readers has.own_env has.counts has.deeper inner.walk) p
           → StepMeets facts place inputs env s (map met_of inner.walk.met)
       by (Process-F.Tool tool) holds = absurd holds
       by (Process-F.Workflow w) holds = record {
@@ -289,7 +290,7 @@ module _ (facts : Facts) (place : JobPlace) (inputs : Fields) (steps : List (Nam
   -- inside it
   module _ (tuple : List ℕ) (inner : Inner) (has : HasInner facts place inputs env k n tuple inner) (later : Env) where
     abbrev this : Nested
-    this = record { number = n; tuple = tuple; inputs = has.own; readers = has.readers; env = has.own_env }
+    this = record { number = n; tuple = tuple; inputs = has.own; readers = has.readers; env = has.own_env; counts = has.counts }
 
     abbrev KeepsThis : Name × Step → Workflow → Type 0
     KeepsThis s w = KeepsOne facts place inputs later s w this (KeepsAlong facts (step_place place s.0 tuple) has.own (out-Workflow w).steps has.own_env has.deeper)
@@ -298,11 +299,12 @@ module _ (facts : Facts) (place : JobPlace) (inputs : Fields) (steps : List (Nam
     kept_inner ready grown =
         subst (KeepsAlong facts place inputs steps later) (sym has.is)
         (λ s within here. subst (λ (t : Name × Step). OfWorkflow (KeepsThis t) (out-Process (out-Step t.1).process)) (same_at steps n k s below is here)
-        (also_of (λ w. IsInner facts place inputs env k w tuple has.own has.readers has.own_env has.deeper inner.walk) (KeepsThis k)
+        (also_of (λ w. IsInner facts place inputs env k w tuple has.own has.readers has.own_env has.counts has.deeper inner.walk) (KeepsThis k)
         (λ w holds. record {
           inside = inside_later facts place inputs env later grown k ready w tuple has.own (out-Step k.1).scatter holds.inside;
           settled = holds.settled;
           table = holds.table;
+          counted = holds.counted;
           along = holds.along;
         }) (out-Process (out-Step k.1).process) has.holds))
 
@@ -330,8 +332,9 @@ module _ (facts : Facts) (place : JobPlace) (inputs : Fields) (env : Env) (s : N
     pub settled_in : OfWorkflow Kept form → SettledIn (facts_before facts) (step_place place s.0 one.tuple) form one deeper
     settled_in =
         also_of Kept (λ w. IsSettled (facts_before facts) (step_place place s.0 one.tuple) one.inputs (out-Workflow w).steps one.env
-        × KeepsAlong (facts_before facts) (step_place place s.0 one.tuple) one.inputs (out-Workflow w).steps one.env deeper × IsTableOf one.readers (out-Workflow w).steps)
-        (λ w keeps. (keeps.settled, keeps.along, keeps.table)) form
+        × KeepsAlong (facts_before facts) (step_place place s.0 one.tuple) one.inputs (out-Workflow w).steps one.env deeper × IsTableOf one.readers (out-Workflow w).steps
+        × IsCounted one.env (out-Workflow w).steps one.counts.items)
+        (λ w keeps. (keeps.settled, keeps.along, keeps.table, keeps.counted)) form
 
     pub gone_inner : (number : ℕ) (tuple : List ℕ) (inner : Inner) → one.number ≡ number → one.tuple ≡ tuple → OfWorkflow Kept form
         → GoesOnIn facts (step_place place s.0 one.tuple) form one inner → HasInner facts place inputs env s number tuple inner
@@ -340,11 +343,12 @@ module _ (facts : Facts) (place : JobPlace) (inputs : Fields) (env : Env) (s : N
           own = one.inputs;
           readers = one.readers;
           own_env = goes.env;
+          counts = goes.counts;
           deeper = goes.deeper;
           is = goes.is;
-          holds = both_of Kept (λ w. HasGone facts (step_place place s.0 one.tuple) w one goes.env goes.deeper inner.walk)
-              (λ w. IsInner facts place inputs env s w one.tuple one.inputs one.readers goes.env goes.deeper inner.walk)
-              (λ w keeps gone. record { inside = inside_now w one.tuple one.inputs (out-Step s.1).scatter keeps.inside; outs = gone.outs; leaves = gone.leaves; settled = gone.settled; table = keeps.table; along = gone.along }) form keeps goes.gone;
+          holds = both_of Kept (λ w. HasGone facts (step_place place s.0 one.tuple) w one goes.env goes.counts goes.deeper inner.walk)
+              (λ w. IsInner facts place inputs env s w one.tuple one.inputs one.readers goes.env goes.counts goes.deeper inner.walk)
+              (λ w keeps gone. record { inside = inside_now w one.tuple one.inputs (out-Step s.1).scatter keeps.inside; outs = gone.outs; leaves = gone.leaves; settled = gone.settled; table = keeps.table; counted = gone.counted; along = gone.along }) form keeps goes.gone;
         })
 
   -- where it begins
@@ -386,8 +390,8 @@ module _ (facts : Facts) (place : JobPlace) (inputs : Fields) (env : Env) (s : N
       }
 
     module _ (number : ℕ) (inner : Inner) (begins : HasBegun facts (step_place place s.0 tuple) form given number tuple inner) where
-      holds_by : (p : Process-F Process Step Workflow) → form ≡ p → OfWorkflow (λ w. IsBegun facts (step_place place s.0 tuple) w given begins.inputs begins.readers begins.env inner.walk) p
-          → OfWorkflow (λ w. IsInner facts place inputs env s w tuple begins.inputs begins.readers begins.env [] inner.walk) p
+      holds_by : (p : Process-F Process Step Workflow) → form ≡ p → OfWorkflow (λ w. IsBegun facts (step_place place s.0 tuple) w given begins.inputs begins.readers begins.env begins.counts inner.walk) p
+          → OfWorkflow (λ w. IsInner facts place inputs env s w tuple begins.inputs begins.readers begins.env begins.counts [] inner.walk) p
       holds_by (Process-F.Tool tool) is begun = absurd begun
       holds_by (Process-F.Workflow w) is begun = record {
         inside = inside_by w is begins.inputs begun.hands (out-Step s.1).scatter refl hands.by;
@@ -396,11 +400,12 @@ module _ (facts : Facts) (place : JobPlace) (inputs : Fields) (env : Env) (s : N
             (leaves_itself (inner_walk w (step_place place s.0 tuple) begins.inputs (facts_before facts)).met (map met_of inner.walk.met));
         settled = begun.settled;
         table = begun.table;
+        counted = begun.counted;
         along = tt;
       }
 
       pub begun_inner : HasInner facts place inputs env s number tuple inner
-      begun_inner = record { own = begins.inputs; readers = begins.readers; own_env = begins.env; deeper = []; is = begins.is; holds = holds_by form refl begins.begun }
+      begun_inner = record { own = begins.inputs; readers = begins.readers; own_env = begins.env; counts = begins.counts; deeper = []; is = begins.is; holds = holds_by form refl begins.begun }
 
 -- ---- what all steps meet, where the place goes through one that has an inner walk
 

@@ -112,6 +112,7 @@ module _ (facts : Facts) (r : JobPlace) (below : EndedBelow facts [] r) (w : Job
           settled = still_settled kept.inputs (out-Workflow v).steps (steps_apart v (root_apart p v is apart)) (inside_workflow v (root_apart p v is apart)) kept.env root.settled
               (of_steps kept.inputs kept.env (out-Workflow v).outputs (out-Workflow v).steps root.settled at);
           table = root.table;
+          counted = root.counted;
           since = omega (arith, root.since, one_fewer facts [] r below);
           along = λ now. absurd (omega (arith, root.since, one_fewer facts [] r below, now));
         }

@@ -1,5 +1,6 @@
 -- What is kept of a root workflow, by the code's own words.
 use Rattle.std.proofs.Common.{◌≡◌, ◌∙◌, ℕ, List, [], length, map, Some, Ok, sym, ap, ap₂, subst, subst₂}
+use Rattle.std.specs.Global.{Vec}
 use Rattle.std.specs.Prelude.{reverse}
 use Rattle.cwl_process.specs.declared.workflow.WorkflowOutput.{WorkflowOutput}
 use Rattle.document_links.specs.declared.process.Workflow.{Workflow, out-Workflow}
@@ -15,11 +16,12 @@ use Rattle.job_graph.specs.declared.nested.Deeper.{Deeper}
 use Rattle.job_graph.specs.declared.nested.Nested.{Nested}
 use Rattle.job_graph.specs.declared.readers.Readers.{Readers}
 use Rattle.job_graph.specs.declared.walk.Walk.{Walk as KeptWalk}
-use Rattle.job_graph.specs.declared.workflow.Walked.{Walked}
+use Rattle.job_graph.specs.declared.waiting.Counted.{Counted}
 use Rattle.job_graph.specs.inner.Going.{LeavesOut, facts_before}
 use Rattle.job_graph.specs.inner.Kept.{HasRooted, KeepsWorkflow}
 use Rattle.job_graph.specs.inner.Levels.{steps_of, steps_walk}
 use Rattle.job_graph.specs.inner.Nested.{GoesDeeper, KeepsAlong}
+use Rattle.job_graph.specs.inner.Counts.{IsCounted}
 use Rattle.job_graph.specs.inner.Readers.{IsTableOf}
 use Rattle.job_graph.specs.inner.Rounds.{IsSettled}
 use Rattle.job_graph.specs.inner.Views.{made_from, met_of, walk_of}
@@ -28,17 +30,17 @@ use Rattle.job_graph.proofs.RootWalk.{of_workflow}
 use Rattle.job_graph.proofs.Rooted.{root_kept}
 use Rattle.job_graph.proofs.laws_of_walks.Processes.{meanings}
 
-abbrev kept_root : Fields → Readers → Env → List Nested → ℕ → Kept
-kept_root inputs readers env nested since = record { inputs = inputs; readers = readers; env = env; nested = nested; since = since }
+abbrev kept_root : Fields → Readers → Env → Vec ℕ → List Nested → ℕ → Kept
+kept_root inputs readers env counts nested since = record { inputs = inputs; readers = readers; env = env; counts = counts; nested = nested; since = since }
 
 module _ (facts : Facts) (fields : Fields) (w : Workflow) (inputs : Fields) (hands : workflow_inputs_for facts.measures (out-Workflow w).inputs fields ≡ Ok inputs) (root : JobPlace) (at : root ≡ [])
     (since : ℕ) (now : since ≡ length facts.learned) (readers : Readers) (table : IsTableOf readers (out-Workflow w).steps) where
   -- where the walk went on
   pub kept_further : (outputs : List (Name × WorkflowOutput)) (deeper : Deeper) → GoesDeeper facts root inputs outputs (out-Workflow w).steps deeper → (found : Rooted)
-      → found.kept ≡ Some (kept_root inputs readers deeper.env deeper.nested since) → KeepsWorkflow facts fields w found.kept
+      → found.kept ≡ Some (kept_root inputs readers deeper.env deeper.counts deeper.nested since) → KeepsWorkflow facts fields w found.kept
   kept_further outputs deeper goes found is =
       subst (KeepsWorkflow facts fields w) (sym is)
-      (root_kept facts fields w inputs readers table deeper.env deeper.nested since hands (subst (λ (place : JobPlace). IsSettled facts place inputs (out-Workflow w).steps deeper.env) at goes.env) now
+      (root_kept facts fields w inputs readers table deeper.env deeper.counts goes.counted deeper.nested since hands (subst (λ (place : JobPlace). IsSettled facts place inputs (out-Workflow w).steps deeper.env) at goes.env) now
       (subst (λ (place : JobPlace). KeepsAlong facts place inputs (out-Workflow w).steps deeper.env (reverse deeper.nested)) at goes.along))
 
   root_is : (made : Made) (outputs : List (Name × WorkflowOutput)) → outputs ≡ (out-Workflow w).outputs
@@ -61,15 +63,16 @@ module _ (facts : Facts) (fields : Fields) (w : Workflow) (inputs : Fields) (han
     outs_further = ap (λ (x : KeptWalk). x.outs) is ∙ goes.outs ∙ ap (λ (x : Walk). x.outs) (root_is (made_from facts) outputs same)
 
   -- where it began
-  pub rooted_anew : (outputs : List (Name × WorkflowOutput)) → outputs ≡ (out-Workflow w).outputs → (walked : Walked) → walk_of walked.walk ≡ steps_walk outputs (steps_of facts (out-Workflow w).steps) root inputs
-      → IsSettled facts root inputs (out-Workflow w).steps walked.env → (none : List Nested) → none ≡ [] → (deeper : Deeper) → deeper ≡ record { walk = walked.walk; env = walked.env; nested = none }
-      → (found : Rooted) → found.walk ≡ deeper.walk → found.kept ≡ Some (kept_root inputs readers deeper.env deeper.nested since)
+  pub rooted_anew : (outputs : List (Name × WorkflowOutput)) → outputs ≡ (out-Workflow w).outputs → (walked : Counted) → walk_of walked.walk ≡ steps_walk outputs (steps_of facts (out-Workflow w).steps) root inputs
+      → IsSettled facts root inputs (out-Workflow w).steps walked.env → IsCounted walked.env (out-Workflow w).steps walked.counts.items → (none : List Nested) → none ≡ []
+      → (deeper : Deeper) → deeper ≡ record { walk = walked.walk; env = walked.env; counts = walked.counts; nested = none }
+      → (found : Rooted) → found.walk ≡ deeper.walk → found.kept ≡ Some (kept_root inputs readers deeper.env deeper.counts deeper.nested since)
       → HasRooted facts fields w (workflow_meaning_of facts.measures (made_from facts) w [] fields) found
-  rooted_anew outputs same walked whole settled none empty deeper is found walk kept = record {
+  rooted_anew outputs same walked whole settled counted none empty deeper is found walk kept = record {
     walk = ap walk_of (walk ∙ ap (λ (d : Deeper). d.walk) is) ∙ whole
         ∙ ap₂ (λ (these : List (Name × WorkflowOutput)) (place : JobPlace). steps_walk these (steps_of facts (out-Workflow w).steps) place inputs) same at
         ∙ sym (of_workflow facts.measures (made_from facts) w [] fields inputs hands);
-    kept = subst (KeepsWorkflow facts fields w) (sym (kept ∙ ap (λ (d : Deeper). Some (kept_root inputs readers d.env d.nested since)) is))
-        (root_kept facts fields w inputs readers table walked.env none since hands (subst (λ (place : JobPlace). IsSettled facts place inputs (out-Workflow w).steps walked.env) at settled) now
+    kept = subst (KeepsWorkflow facts fields w) (sym (kept ∙ ap (λ (d : Deeper). Some (kept_root inputs readers d.env d.counts d.nested since)) is))
+        (root_kept facts fields w inputs readers table walked.env walked.counts counted none since hands (subst (λ (place : JobPlace). IsSettled facts place inputs (out-Workflow w).steps walked.env) at settled) now
         (none_along facts [] inputs (out-Workflow w).steps walked.env none empty));
   }

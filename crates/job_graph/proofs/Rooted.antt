@@ -1,5 +1,6 @@
 -- What is kept of the walk from the root, by the code's own words.
 use Rattle.std.proofs.Common.{◌≡◌, ◌∙◌, ℕ, List, [], ◌∷◌, ◌++◌, length, map, Result, Ok, Err, refl, sym, ap, subst, arith}
+use Rattle.std.specs.Global.{Vec}
 use Rattle.std.specs.Prelude.{IfOk, reverse}
 use Rattle.document_links.specs.declared.process.Workflow.{Workflow, out-Workflow}
 use Rattle.cwl_process.specs.declared.tool.Tool.{Tool}
@@ -19,6 +20,7 @@ use Rattle.job_graph.specs.declared.readers.Readers.{Readers}
 use Rattle.job_graph.specs.inner.Going.{EndedBelow, LeavesOut, earlier}
 use Rattle.job_graph.specs.inner.Kept.{HasRooted, IsOfRoot, KeepsWorkflow}
 use Rattle.job_graph.specs.inner.Nested.{KeepsAlong}
+use Rattle.job_graph.specs.inner.Counts.{IsCounted}
 use Rattle.job_graph.specs.inner.Readers.{IsTableOf}
 use Rattle.job_graph.specs.inner.Rounds.{IsSettled}
 use Rattle.job_graph.specs.inner.Views.{met_of}
@@ -43,10 +45,12 @@ module _ {E : Type 0} (facts : Facts) (fields : Fields) (w : Workflow) (walk : W
   rooted_kept (Err error) has = tt
 
 -- what is kept of a root workflow whose steps are settled, and inside one of them
-pub root_kept : (facts : Facts) (fields : Fields) (w : Workflow) (inputs : Fields) (readers : Readers) → IsTableOf readers (out-Workflow w).steps → (env : Env) (nested : List Nested) (since : ℕ) → workflow_inputs_for facts.measures (out-Workflow w).inputs fields ≡ Ok inputs
+pub root_kept : (facts : Facts) (fields : Fields) (w : Workflow) (inputs : Fields) (readers : Readers) → IsTableOf readers (out-Workflow w).steps
+    → (env : Env) (counts : Vec ℕ) → IsCounted env (out-Workflow w).steps counts.items → (nested : List Nested) (since : ℕ) → workflow_inputs_for facts.measures (out-Workflow w).inputs fields ≡ Ok inputs
     → IsSettled facts [] inputs (out-Workflow w).steps env → since ≡ length facts.learned → KeepsAlong facts [] inputs (out-Workflow w).steps env (reverse nested)
-    → IsOfRoot facts fields w (record { inputs = inputs; readers = readers; env = env; nested = nested; since = since })
-root_kept facts fields w inputs readers table env nested since is settled now along = record { inputs = is; settled = settled; table = table; since = omega (arith, now); along = λ same. along }
+    → IsOfRoot facts fields w (record { inputs = inputs; readers = readers; env = env; counts = counts; nested = nested; since = since })
+root_kept facts fields w inputs readers table env counts counted nested since is settled now along =
+    record { inputs = is; settled = settled; table = table; counted = counted; since = omega (arith, now); along = λ same. along }
 
 -- from a root that is a tool, and from one that is a workflow
 module _ (measures : Measures) (made : Made) (p : Process) (place : JobPlace) (fields : Fields) where

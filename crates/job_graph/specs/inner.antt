@@ -1,3 +1,4 @@
+pub mod Counts
 pub mod Elements
 pub mod Ended
 pub mod Entered

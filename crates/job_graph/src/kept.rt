@@ -11,6 +11,7 @@ use crate::links::Env;
 use crate::made::Facts;
 use crate::nested::{Deeper, Nested, walk_deeper, with_nested};
 use crate::readers::Readers;
+use crate::waiting::with_counts;
 use crate::walk::{Walk, failed_process, walk_tool};
 use crate::workflow::walk_keeping;
 use cwl_value::{Segment, Value};
@@ -18,12 +19,14 @@ use document_links::{Process, Workflow};
 use plain_data::{Items, Keyed};
 use std::alloc::{AllocError, Global};
 
-/// The inputs of the root workflow, the outputs of those of its steps that were walked, and what is kept inside one of them.
+/// The inputs of the root workflow, the outputs of those of its steps that were walked, what each step waits for, and what is kept inside one of them.
 #[derive(Drop)]
 pub(crate) struct Kept {
     pub inputs: Keyed<Value>,
     pub readers: Readers,
     pub env: Env,
+    /// How many values each step still waits for.
+    pub counts: Vec<usize>,
     /// What is kept along the place that was learned last, the outermost last.
     pub nested: Items<Nested>,
     /// How many places were learned by then. Once more are, `nested` says nothing.
@@ -82,6 +85,7 @@ fn walk_whole<'a>(
         Ok(inputs) => {
             let outputs = workflow.outputs.as_slice();
             let walked = walk_keeping(alloc, facts, &workflow.steps, outputs, &root, &inputs)?;
+            let walked = with_counts(alloc, walked, &workflow.steps)?;
             let readers = Readers::of(alloc, &workflow.steps)?;
             Ok(with_kept(
                 inputs,
@@ -127,6 +131,7 @@ fn go_on<'a>(
         inputs,
         readers,
         env,
+        counts,
         nested,
         since,
     } = kept;
@@ -135,7 +140,7 @@ fn go_on<'a>(
     let outputs = workflow.outputs.as_slice();
     let ended: &[Segment] = last.at.place.as_slice();
     let deeper = walk_deeper(
-        alloc, facts, steps, &readers, outputs, &root, &inputs, env, nested, ended,
+        alloc, facts, steps, &readers, outputs, &root, &inputs, env, counts, nested, ended,
     )?;
     Ok(with_kept(inputs, readers, deeper, facts.learned.len()))
 }
@@ -162,17 +167,24 @@ fn with_kept<'a>(
       inputs = inputs;
       readers = readers;
       env = deeper.entry.env;
+      counts = deeper.entry.counts;
       nested = deeper.entry.nested;
       since = since;
     }) }
 {
-    let Deeper { walk, env, nested } = deeper;
+    let Deeper {
+        walk,
+        env,
+        counts,
+        nested,
+    } = deeper;
     Rooted {
         walk,
         kept: Some(Kept {
             inputs,
             readers,
             env,
+            counts,
             nested,
             since,
         }),

@@ -12,6 +12,7 @@
 
 mod cause;
 mod costs;
+mod counts;
 mod ended;
 mod fault;
 mod gather;
@@ -40,7 +41,6 @@ mod progress;
 mod readers;
 mod rounds;
 mod scatter;
-mod sought;
 mod step;
 mod tuple;
 mod unfolding;
@@ -59,6 +59,5 @@ pub use laws::{
     open_jobs_hold_back, results_are_eval, results_learned_each_job, results_stay,
 };
 pub use paths::input_paths;
-pub use sought::Sought;
 pub use unfolding::Unfolding;
 pub use walk::Job;

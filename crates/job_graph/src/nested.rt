@@ -5,6 +5,7 @@ ghost use Rattle.std.specs.List.{list_all};
 ghost use Rattle.document_links.specs.declared.process.Process.{out-Process};
 ghost use Rattle.job_graph.specs.Apart.{ids_differ, step_ids_differ};
 ghost use Rattle.job_graph.specs.Equations.{step_place};
+ghost use Rattle.job_graph.specs.inner.Counts.{IsCounted};
 ghost use Rattle.job_graph.specs.inner.Going.{EndedBelow, facts_before};
 ghost use Rattle.job_graph.specs.inner.Nested.{BeginsAs, GoesDeeper, GoesOnIn, HasBegun, HasInner, IsFound, KeepsAlong, MayKeep, NestedMeet, SettledIn};
 ghost use Rattle.job_graph.specs.inner.Readers.{IsTableOf};
@@ -17,9 +18,9 @@ use crate::links::Env;
 use crate::made::Facts;
 use crate::place::{after_first, step_place};
 use crate::readers::Readers;
-use crate::waiting::{step_above, walk_on};
+use crate::waiting::{Counted, step_above, walk_on, with_counts};
 use crate::walk::Walk;
-use crate::workflow::{Walked, walk_keeping, with_outputs};
+use crate::workflow::{walk_keeping, with_outputs};
 use cwl_process::{Entries, WorkflowOutput};
 use cwl_value::{JobPlace, Segment, Value};
 use document_links::{Process, Step, Workflow};
@@ -37,6 +38,8 @@ pub(crate) struct Nested {
     pub inputs: Keyed<Value>,
     pub readers: Readers,
     pub env: Env,
+    /// How many values each step of it still waits for.
+    pub counts: Vec<usize>,
 }
 
 /// The walk through an inner workflow, and what is kept of it and inside it, the outermost last.
@@ -53,11 +56,13 @@ struct Found<'a> {
     stays: bool,
 }
 
-/// The walk through a workflow, the outputs of its steps, and what is kept inside one of them, the outermost last.
+/// The walk through a workflow, the outputs of its steps, how many values each of them still waits for, and what is kept inside one of them, the
+/// outermost last.
 #[derive(Drop)]
 pub(crate) struct Deeper<'a> {
     pub walk: Walk<'a>,
     pub env: Env,
+    pub counts: Vec<usize>,
     pub nested: Items<Nested>,
 }
 
@@ -73,6 +78,7 @@ pub(crate) fn walk_deeper<'a>(
     place: &JobPlace,
     inputs: &Keyed<Value>,
     env: Env,
+    counts: Vec<usize>,
     nested: Items<Nested>,
     ended: &[Segment],
 ) -> Result<Deeper<'a>, AllocError>
@@ -80,6 +86,7 @@ pub(crate) fn walk_deeper<'a>(
     requires along { KeepsAlong (facts_before facts.now) place.now inputs.now steps.now env
         (reverse nested) }
     requires table { IsTableOf readers.now steps.now }
+    requires counted { IsCounted env steps.now counts.items }
     requires ended { EndedBelow facts.now place.now ended.now }
     requires apart { list_all (λ s. step_ids_differ s.1) steps.now ≡ true }
     ensures { IfOk result (GoesDeeper facts.now place.now inputs.now outputs.now steps.now) }
@@ -88,7 +95,7 @@ pub(crate) fn walk_deeper<'a>(
         alloc, facts, steps, readers, place, inputs, &env, nested, ended,
     )?;
     walk_by(
-        alloc, facts, steps, readers, outputs, place, inputs, env, found, ended,
+        alloc, facts, steps, readers, outputs, place, inputs, env, counts, found, ended,
     )
 }
 
@@ -102,12 +109,14 @@ fn walk_by<'a>(
     place: &JobPlace,
     inputs: &Keyed<Value>,
     env: Env,
+    counts: Vec<usize>,
     found: Option<Found<'a>>,
     ended: &[Segment],
 ) -> Result<Deeper<'a>, AllocError>
     requires before { IsSettled (facts_before facts.now) place.now inputs.now steps.now env }
     requires found { IfSome found (NestedMeet facts.now place.now inputs.now steps.now env) }
     requires table { IsTableOf readers.now steps.now }
+    requires counted { IsCounted env steps.now counts.items }
     requires ended { EndedBelow facts.now place.now ended.now }
     requires apart { list_all (λ s. step_ids_differ s.1) steps.now ≡ true }
     ensures { IfOk result (GoesDeeper facts.now place.now inputs.now outputs.now steps.now) }
@@ -115,12 +124,12 @@ fn walk_by<'a>(
     match found {
         None => {
             let walked = walk_on(
-                alloc, facts, steps, readers, outputs, place, inputs, env, ended,
+                alloc, facts, steps, readers, outputs, place, inputs, env, counts, ended,
             )?;
             Ok(with_nested(walked, Items::new(alloc)))
         }
         Some(found) => walk_found(
-            alloc, facts, steps, readers, outputs, place, inputs, env, found, ended,
+            alloc, facts, steps, readers, outputs, place, inputs, env, counts, found, ended,
         ),
     }
 }
@@ -134,12 +143,14 @@ fn walk_found<'a>(
     place: &JobPlace,
     inputs: &Keyed<Value>,
     env: Env,
+    counts: Vec<usize>,
     found: Found<'a>,
     ended: &[Segment],
 ) -> Result<Deeper<'a>, AllocError>
     requires before { IsSettled (facts_before facts.now) place.now inputs.now steps.now env }
     requires found { NestedMeet facts.now place.now inputs.now steps.now env found }
     requires table { IsTableOf readers.now steps.now }
+    requires counted { IsCounted env steps.now counts.items }
     requires ended { EndedBelow facts.now place.now ended.now }
     requires apart { list_all (λ s. step_ids_differ s.1) steps.now ≡ true }
     ensures { IfOk result (GoesDeeper facts.now place.now inputs.now outputs.now steps.now) }
@@ -150,24 +161,30 @@ fn walk_found<'a>(
     drop(outs);
     if stays {
         let walk = with_outputs(alloc, met, outputs, place, inputs, &env)?;
-        return Ok(with_nested(Walked { walk, env }, nested));
+        return Ok(with_nested(Counted { walk, env, counts }, nested));
     }
     drop(met);
     let walked = walk_on(
-        alloc, facts, steps, readers, outputs, place, inputs, env, ended,
+        alloc, facts, steps, readers, outputs, place, inputs, env, counts, ended,
     )?;
     Ok(with_nested(walked, nested))
 }
 
-pub(crate) fn with_nested<'a>(walked: Walked<'a>, nested: Items<Nested>) -> Deeper<'a>
+pub(crate) fn with_nested<'a>(walked: Counted<'a>, nested: Items<Nested>) -> Deeper<'a>
     ensures { result ≡ record {
       walk = walked.entry.walk;
       env = walked.entry.env;
+      counts = walked.entry.counts;
       nested = nested;
     } }
 {
-    let Walked { walk, env } = walked;
-    Deeper { walk, env, nested }
+    let Counted { walk, env, counts } = walked;
+    Deeper {
+        walk,
+        env,
+        counts,
+        nested,
+    }
 }
 
 /// The walk through the workflow inside the step that the place goes through, if there is one. Where the outputs of the step stay, it meets what all
@@ -299,11 +316,12 @@ fn go_on<'a>(
                 inputs,
                 readers,
                 env,
+                counts,
             } = one;
             let steps = &workflow.steps;
             let outputs = workflow.outputs.as_slice();
             let deeper = walk_deeper(
-                alloc, facts, steps, &readers, outputs, &own, &inputs, env, nested, rest,
+                alloc, facts, steps, &readers, outputs, &own, &inputs, env, counts, nested, rest,
             )?;
             Ok(Some(with_inner(number, tuple, inputs, readers, deeper)?))
         }
@@ -373,6 +391,7 @@ fn begin_workflow<'a>(
         Ok(inputs) => {
             let outputs = workflow.outputs.as_slice();
             let walked = walk_keeping(alloc, facts, &workflow.steps, outputs, own, &inputs)?;
+            let walked = with_counts(alloc, walked, &workflow.steps)?;
             let readers = Readers::of(alloc, &workflow.steps)?;
             Ok(Some(with_inner(
                 number,
@@ -404,9 +423,15 @@ fn with_inner<'a>(
       inputs = inputs;
       readers = readers;
       env = deeper.entry.env;
+      counts = deeper.entry.counts;
     } ∷ reverse deeper.entry.nested) }
 {
-    let Deeper { walk, env, nested } = deeper;
+    let Deeper {
+        walk,
+        env,
+        counts,
+        nested,
+    } = deeper;
     let mut nested = nested;
     nested.push(Nested {
         number,
@@ -414,6 +439,7 @@ fn with_inner<'a>(
         inputs,
         readers,
         env,
+        counts,
     })?;
     Ok(Inner { walk, nested })
 }

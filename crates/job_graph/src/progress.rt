@@ -22,7 +22,7 @@ use crate::kept::{Kept, Rooted, walk_from_root};
 use crate::known::Known;
 use crate::learned::Learned;
 use crate::made::{Facts, Resolved};
-use crate::open::is_one_open;
+use crate::open::sees_open;
 use crate::outcome::{Outputs, are_there, are_whole, those_named};
 use crate::present::{graph_of, needed_of, vertices_of};
 use crate::walk::Walk;
@@ -154,7 +154,7 @@ impl<'a> Progress<'a> {
         Ok(needed)
     }
 
-    /// Adds what was learned, and what is known then. No walk is made while another job of the same scattered step is open, since
+    /// Adds what was learned, and what is known then. No walk is made while another job of the same scattered step is seen to be open, since
     /// nothing more is known then (`open_jobs_hold_back`). After an error nothing has changed.
     fn resolve(&mut self, resolved: Resolved) -> Result<(), UnfoldError>
         requires { Stands self.old }
@@ -167,7 +167,7 @@ impl<'a> Progress<'a> {
             ≡ self.old.known) }
     {
         let place = &resolved.at.place;
-        let is_open = is_one_open(self.ended.as_slice(), place, self.known.as_slice());
+        let is_open = sees_open(self.ended.as_slice(), place, self.known.as_slice());
         self.facts.learned.push(resolved)?;
         end_last(&mut self.ended, &self.facts.learned, &self.known);
         if is_open {

@@ -90,7 +90,7 @@ fn settle_more<'a>(
 
 /// Walks a step, keeps its outputs and returns what it met.
 #[cycle(walk)]
-pub(crate) fn settle<'a>(
+fn settle<'a>(
     alloc: Global,
     facts: &Facts,
     id: &Text,
@@ -112,7 +112,7 @@ pub(crate) fn settle<'a>(
 }
 
 /// Whether a step has its outputs there already, or one of its inputs waits.
-pub(crate) fn is_stuck(env: &Env, step: &(Text, Step)) -> bool
+fn is_stuck(env: &Env, step: &(Text, Step)) -> bool
     ensures { result ≡ is_stuck env.now step.now }
 {
     is_walked(env, step.0.as_str()) || !is_ready(env, &step.1)
@@ -148,7 +148,8 @@ fn are_known(env: &Env, sources: &[Source]) -> bool
     true
 }
 
-fn is_known(env: &Env, source: &Source) -> bool
+/// Whether the value of a source is known.
+pub(crate) fn is_known(env: &Env, source: &Source) -> bool
     ensures { result ≡ is_known env.now source.now }
 {
     match &source.step {

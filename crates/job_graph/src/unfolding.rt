@@ -1,7 +1,7 @@
 //! What is known of a process, once the outputs of some of its jobs are.
 ghost use Rattle.std.specs.Prelude.{◌≡◌, [], All, IfErr, IfOk, None, OnErr, OnOk, length, map, option_map, take};
 ghost use Rattle.job_graph.specs.Equations.{walker};
-ghost use Rattle.job_graph.specs.KnownJobs.{jobs_in, known_of};
+ghost use Rattle.job_graph.specs.KnownJobs.{jobs_in, known_of, number_at};
 ghost use Rattle.job_graph.specs.PresentJobGraph.{AreWithin, needed_among, present_job_graph};
 ghost use Rattle.job_graph.specs.Unfold.{known_from, unfolded};
 ghost use Rattle.job_graph.specs.Unfolding.{AnswersAlike, Blames, Knows, Learns};
@@ -86,6 +86,13 @@ impl<'a> Unfolding<'a> {
         ensures parents { map known_of result.now ≡ known_from [] self.now.known }
     {
         self.progress.known.as_slice()
+    }
+
+    /// The number of the known job at a place.
+    pub fn number_of(&self, place: &JobPlace) -> Option<usize>
+        ensures { result ≡ number_at place.now self.now.known }
+    {
+        self.progress.known.number_of(place)
     }
 
     /// The outputs of the process, once those of all jobs are known.

@@ -1,7 +1,7 @@
 -- Where the outputs of some steps change, a step that reads none of them has the same inputs.
-use Rattle.std.proofs.Common.{◌≡◌, ◌∙◌, inl, inr, List, [], ◌∷◌, Bool, true, false, cond, not, Option, Some, None, unwrap_or, bytes_eq, refl, ap, ap₂}
-use Rattle.std.specs.Prelude.{◌&&◌, ◌||◌, is_some}
-use Rattle.std.specs.List.{list_all, list_any}
+use Rattle.std.proofs.Common.{◌≡◌, ◌∙◌, inl, inr, List, [], ◌∷◌, Bool, false, cond, Option, Some, None, unwrap_or, bytes_eq, refl, ap, ap₂}
+use Rattle.std.specs.Prelude.{◌||◌}
+use Rattle.std.specs.List.{list_any}
 use Rattle.std.specs.Option.{option_map_or}
 use Rattle.cwl_value.specs.declared.value.Value.{Value}
 use Rattle.cwl_process.specs.declared.links.Source.{Source}
@@ -18,7 +18,6 @@ use Rattle.job_graph.specs.Words.{Name, Fields}
 use Rattle.job_graph.specs.Jobs.{Outs, with_first}
 use Rattle.job_graph.specs.Links.{Env, by_link, linked_values, measured, once_known, out_under, value_from}
 use Rattle.job_graph.specs.inner.Going.{SameBut, is_from, reads, reads_one}
-use Rattle.job_graph.specs.inner.Rounds.{are_known, is_ready, is_stuck, is_there}
 use Rattle.job_graph.proofs.laws_of_walks.Part.{neither_one, neither_other}
 use Rattle.job_graph.proofs.laws_of_walks.Steps.{entries_of}
 
@@ -46,19 +45,11 @@ module _ (ids : List Name) (env later : Env) (same : SameBut ids env later) wher
   from_same inputs None name apart = refl
   from_same inputs (Some step) name apart = ap (out_under name) (same step apart)
 
-  there_same : (step : Option Name) (name : Name) → list_any (λ id. option_map_or (λ step. bytes_eq step id) step false) ids ≡ false → is_there later step name ≡ is_there env step name
-  there_same None name apart = refl
-  there_same (Some step) name apart = ap (λ (o : Option Outs). is_some (out_under name o)) (same step apart)
-
   linked_same : (inputs : Fields) (sources : List Source) → AreFree ids sources → linked_values inputs later sources ≡ linked_values inputs env sources
   linked_same inputs [] apart = refl
   linked_same inputs (s ∷ ss) apart =
       ap₂ (λ (v : Option Value) (rest : Option (List Value)). with_first v rest) (from_same inputs s.step s.name (apart s (inl refl)))
       (linked_same inputs ss (λ source at. apart source (inr at)))
-
-  known_same : (sources : List Source) → AreFree ids sources → are_known later sources ≡ are_known env sources
-  known_same [] apart = refl
-  known_same (s ∷ ss) apart = ap₂ (λ (a b : Bool). a && b) (there_same s.step s.name (apart s (inl refl))) (known_same ss (λ source at. apart source (inr at)))
 
   abbrev entry_from : Measures → StepInput → Option (List Value) → Partly
   entry_from measures input found = once_known (λ values. by_link (step_input (measured measures input) (merged input.links.merge values))) found
@@ -71,34 +62,12 @@ module _ (ids : List Name) (env later : Env) (same : SameBut ids env later) wher
       (ap (entry_from measures i.1) (linked_same inputs (sources_in i.1) (apart i (inl refl))))
       (inputs_same measures inputs is (λ j at. apart j (inr at)))
 
-  abbrev are_ready : Env → List (Name × StepInput) → Bool
-  are_ready env ins = list_all (λ i. are_known env (sources_in i.1)) ins
-
-  all_same : (ins : List (Name × StepInput)) → ((i : Name × StepInput) → IsIn i ins → AreFree ids (sources_in i.1)) → are_ready later ins ≡ are_ready env ins
-  all_same [] apart = refl
-  all_same (i ∷ is) apart = ap₂ (λ (a b : Bool). a && b) (known_same (sources_in i.1) (apart i (inl refl))) (all_same is (λ j at. apart j (inr at)))
-
   module _ (s : Step) (none : reads_one ids s ≡ false) where
     pub entries_same : (measures : Measures) (inputs : Fields) → entries_of measures (out-Step s).inputs inputs later ≡ entries_of measures (out-Step s).inputs inputs env
     entries_same measures inputs = inputs_same measures inputs (out-Step s).inputs (free ids s none)
-
-    pub ready_same : is_ready later s ≡ is_ready env s
-    ready_same = all_same (out-Step s).inputs (free ids s none)
 
 -- ---- where the outputs of one step are put
 
 pub same_but_one : (id : Name) (outs : Outs) (env : Env) → SameBut (id ∷ []) env (with_value id outs env)
 same_but_one id outs env = λ other apart.
     value_at-with_value other id outs env ∙ ap (λ (b : Bool). cond b (Some outs) (value_at other env)) (neither_one (bytes_eq other id) false apart)
-
-either_stuck : (b : Bool) (outs : Outs) (found : Option Outs) (waits : Bool) → (is_some found || waits) ≡ true → (is_some (cond b (Some outs) found) || waits) ≡ true
-either_stuck true outs found waits is = refl
-either_stuck false outs found waits is = is
-
--- a step that does not read it and can't be walked still can't
-pub stuck_stays : (id : Name) (outs : Outs) (env : Env) (s : Name × Step) → reads id s.1 ≡ false → is_stuck env s ≡ true → is_stuck (with_value id outs env) s ≡ true
-stuck_stays id outs env s none stuck =
-    let ready : is_ready (with_value id outs env) s.1 ≡ is_ready env s.1 =
-    ready_same (id ∷ []) env (with_value id outs env) (same_but_one id outs env) s.1 (ap (λ (b : Bool). b || false) none) in
-    ap₂ (λ (o : Option Outs) (b : Bool). is_some o || not b) (value_at-with_value s.0 id outs env) ready
-    ∙ either_stuck (bytes_eq s.0 id) outs (value_at s.0 env) (not (is_ready env s.1)) stuck

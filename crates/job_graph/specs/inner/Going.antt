@@ -1,5 +1,5 @@
 -- How the steps of a workflow go on, where a job below one of them has ended.
-use Rattle.std.specs.Prelude.{◌≡◌, ◌≤◌, ◌<◌, ◌++◌, ◌+◌, ◌*◌, ◌-◌, ◌⊎◌, ◌||◌, ℕ, Bool, true, false, get_or, length, List, [], ◌∷◌, map, not, Option, Some, None, bytes_eq, is_some, take, unwrap_or, ◌==◌}
+use Rattle.std.specs.Prelude.{◌≡◌, ◌<◌, ◌++◌, ◌-◌, ◌⊎◌, ◌||◌, ℕ, Bool, true, false, get_or, length, List, [], ◌∷◌, map, not, Option, Some, None, bytes_eq, is_some, take, unwrap_or}
 use Rattle.std.specs.BTreeMap.{BTreeMap, Updates, get}
 use Rattle.std.specs.List.{list_all, list_any}
 use Rattle.std.specs.Option.{option_map_or}
@@ -7,15 +7,17 @@ use Rattle.std.specs.Ordering.{nat_cmp}
 use Rattle.cwl_process.specs.declared.links.Source.{Source}
 use Rattle.document_links.specs.declared.process.Step.{Step, out-Step}
 use Rattle.plain_data.specs.ByName.{value_at, with_value}
-use Rattle.job_graph.specs.inner.Elements.{IsIn}
+use Rattle.job_graph.specs.inner.Elements.{IsIn, stands_in}
 use Rattle.job_graph.specs.Words.{Name, Fields, JobPlace}
 use Rattle.job_graph.specs.Jobs.{Met}
 use Rattle.job_graph.specs.Links.{Env}
 use Rattle.job_graph.specs.declared.made.Facts.{Facts}
 use Rattle.job_graph.specs.declared.made.Resolved.{Resolved as KeptResolved}
 use Rattle.job_graph.specs.declared.walk.Met.{Met as KeptMet}
+use Rattle.job_graph.specs.declared.readers.Readers.{Readers}
 use Rattle.job_graph.specs.declared.waiting.Going.{Going}
-use Rattle.job_graph.specs.inner.Rounds.{EnvGrows, Keeps, MeetsBy, count, is_stuck, walk_at}
+use Rattle.job_graph.specs.inner.Counts.{IsCounted, Lowers, awaited_of, is_new, waits_for}
+use Rattle.job_graph.specs.inner.Rounds.{EnvGrows, Keeps, MeetsBy, is_stuck, walk_at}
 use Rattle.job_graph.specs.inner.Views.{met_of}
 
 -- ---- what was known before the place that was learned last
@@ -65,21 +67,12 @@ IsKept changed s (Some met) = Unit {0}
 abbrev pub AreKept : List Name → List (Name × Step) → BTreeMap ℕ (List KeptMet) → Type 0
 AreKept changed steps met = (n : ℕ) (s : Name × Step) → n < length steps → s ≡ get_or steps n s → IsKept changed s (get nat_cmp met n)
 
--- whether a number is one of these
-abbrev pub stands_in : ℕ → List ℕ → Bool
-stands_in m row = list_any (λ n. n == m) row
-
 abbrev pub AreNumbers : List (Name × Step) → List ℕ → Type 0
 AreNumbers steps row = (m : ℕ) → stands_in m row ≡ true → m < length steps
 
--- each step can't be walked, or reads one whose readers are still to be looked at
-abbrev pub AreLookedAt : Env → List Name → List (Name × Step) → Type 0
-AreLookedAt env pending steps = (s : Name × Step) → IsIn s steps → (is_stuck env s ≡ true) ⊎ (reads_one pending s.1 ≡ true)
-
--- but for those of these numbers
-abbrev pub AreLookedAtBut : List ℕ → Env → List Name → List (Name × Step) → Type 0
-AreLookedAtBut row env pending steps = (n : ℕ) (s : Name × Step) → n < length steps → s ≡ get_or steps n s
-    → (is_stuck env s ≡ true) ⊎ ((reads_one pending s.1 ≡ true) ⊎ (stands_in n row ≡ true))
+-- each step can't be walked, or is to be walked next
+abbrev pub ArePending : Env → List ℕ → List (Name × Step) → Type 0
+ArePending env pending steps = (n : ℕ) (s : Name × Step) → n < length steps → s ≡ get_or steps n s → (is_stuck env s ≡ true) ⊎ (stands_in n pending ≡ true)
 
 -- the known outputs of other steps are as they were
 abbrev pub SameBut : List Name → Env → Env → Type 0
@@ -96,10 +89,6 @@ IsAbove ended env steps None = HasAbove ended env steps []
 IsAbove ended env steps (Some n) =
     (n < length steps) × ((s : Name × Step) → s ≡ get_or steps n s → (goes_through ended s.0 ≡ true) × (is_some (value_at s.0 env) ≡ true))
 
--- how much there is still to do, at most
-abbrev pub left_to_do : List (Name × Step) → Going → ℕ
-left_to_do steps going = 2 * (length steps - count going.env steps) + length going.pending
-
 module _ (facts : Facts) (place : JobPlace) (inputs : Fields) where
   -- `Rounds.Holds`, where what steps met is kept by their numbers
   pub record HoldsAt (steps : List (Name × Step)) (env : Env) (kept : BTreeMap ℕ (List KeptMet)) : Type 0 where
@@ -107,30 +96,16 @@ module _ (facts : Facts) (place : JobPlace) (inputs : Fields) where
     pub met : (n : ℕ) (s : Name × Step) → n < length steps → s ≡ get_or steps n s → MeetsBy facts place inputs env s (get nat_cmp kept n)
     pub within : (n : ℕ) → is_some (get nat_cmp kept n) ≡ true → n < length steps
 
-  -- a step was walked
-  pub record WalksOne (s : Name × Step) (number : ℕ) (old new : Going) : Type 0 where
+  -- a step was walked, and the steps wait for its new outputs no more
+  pub record WalksOne (readers : Readers) (s : Name × Step) (number : ℕ) (old new : Going) : Type 0 where
     pub met : List KeptMet
     pub is : map met_of met ≡ (walk_at facts place inputs old.env s).met
     pub env : new.env ≡ with_value s.0 (walk_at facts place inputs old.env s).outs old.env
     pub kept : Updates nat_cmp old.met new.met number (Some met)
     pub changed : new.changed ≡ old.changed ++ s.0 ∷ []
-    pub pending : new.pending ≡ old.pending ++ s.0 ∷ []
+    pub lowers : Lowers (λ m. waits_for (is_new (unwrap_or (value_at s.0 old.env) []) (walk_at facts place inputs old.env s).outs) m (awaited_of s.0 readers.awaited)) old.waits new.waits
 
   module _ (steps : List (Name × Step)) where
-    -- steps were walked that waited for nothing any more
-    pub record WalksOn (old new : Going) : Type 0 where
-      pub holds : HoldsAt steps new.env new.met
-      pub grown : EnvGrows old.env new.env
-      pub same : SameBut new.changed old.env new.env
-      pub changed : (id : Name) → list_any (bytes_eq id) old.changed ≡ true → list_any (bytes_eq id) new.changed ≡ true
-      pub slots : AreKept old.changed steps old.met → AreKept new.changed steps new.met
-      pub fewer : left_to_do steps new ≤ left_to_do steps old
-
-    -- and those that were left are looked at
-    pub record WalksReaders (old new : Going) : Type 0 where
-      pub on : WalksOn old new
-      pub looked : AreLookedAt new.env new.pending steps
-
     -- from old outputs
     pub record Goes (old : Env) (going : Going) : Type 0 where
       pub holds : HoldsAt steps going.env going.met
@@ -143,6 +118,7 @@ module _ (facts : Facts) (place : JobPlace) (inputs : Fields) where
       pub goes : Goes old going
       pub above : HasAbove ended old steps going.changed
       pub stuck : list_all (is_stuck going.env) steps ≡ true
+      pub counted : IsCounted going.env steps going.waits.counts.items
 
     -- what is there is what the steps of these numbers meet
     pub record AreRight (env : Env) (met : BTreeMap ℕ (List KeptMet)) : Type 0 where

@@ -11,17 +11,19 @@ use Rattle.job_graph.specs.Equations.{meaning_of}
 use Rattle.job_graph.specs.declared.kept.Kept.{Kept}
 use Rattle.job_graph.specs.declared.kept.Rooted.{Rooted}
 use Rattle.job_graph.specs.declared.made.Facts.{Facts}
+use Rattle.job_graph.specs.inner.Counts.{IsCounted}
 use Rattle.job_graph.specs.inner.Going.{facts_before}
 use Rattle.job_graph.specs.inner.Nested.{KeepsAlong}
 use Rattle.job_graph.specs.inner.Readers.{IsTableOf}
 use Rattle.job_graph.specs.inner.Rounds.{IsSettled}
 use Rattle.job_graph.specs.inner.Views.{made_from, walk_of}
 
--- the inputs of a root workflow, the readers of its steps, their outputs, and what is inside one of them while nothing more is learned
+-- the inputs of a root workflow, the readers of its steps, their outputs and what they wait for, and what is inside one of them while nothing more is learned
 pub record IsOfRoot (facts : Facts) (fields : Fields) (w : Workflow) (kept : Kept) : Type 0 where
   pub inputs : workflow_inputs_for facts.measures (out-Workflow w).inputs fields ≡ Ok kept.inputs
   pub settled : IsSettled facts [] kept.inputs (out-Workflow w).steps kept.env
   pub table : IsTableOf kept.readers (out-Workflow w).steps
+  pub counted : IsCounted kept.env (out-Workflow w).steps kept.counts.items
   pub since : kept.since ≤ length facts.learned
   pub along : kept.since ≡ length facts.learned → KeepsAlong facts [] kept.inputs (out-Workflow w).steps kept.env (reverse kept.nested)
 

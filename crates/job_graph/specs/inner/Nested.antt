@@ -1,5 +1,6 @@
 -- What is kept of the workflows inside steps, one inside another along a place, and how they go on.
 use Rattle.std.specs.Prelude.{◌≡◌, ◌<◌, ℕ, get_or, length, reverse, List, [], ◌∷◌, map, Option, Some, true, Ok}
+use Rattle.std.specs.Global.{Vec}
 use Rattle.cwl_process.specs.declared.workflow.WorkflowOutput.{WorkflowOutput}
 use Rattle.document_links.specs.declared.process.Process.{Process, out-Process}
 use Rattle.document_links.specs.declared.process.Process.TheOpen.{Process-F}
@@ -21,6 +22,7 @@ use Rattle.job_graph.specs.declared.nested.Inner.{Inner}
 use Rattle.job_graph.specs.declared.nested.Nested.{Nested}
 use Rattle.job_graph.specs.declared.readers.Readers.{Readers}
 use Rattle.job_graph.specs.declared.walk.Walk.{Walk as KeptWalk}
+use Rattle.job_graph.specs.inner.Counts.{IsCounted}
 use Rattle.job_graph.specs.inner.Going.{LeavesOut, facts_before}
 use Rattle.job_graph.specs.inner.Levels.{step_of, steps_of, steps_walk}
 use Rattle.job_graph.specs.inner.OneTuple.{StaysWith, StepsMeet, times, walk_for, walks_for}
@@ -68,6 +70,7 @@ pub record KeepsOne (facts : Facts) (place : JobPlace) (inputs : Fields) (env : 
   pub inside : IsInside facts place inputs env s w one.tuple one.inputs (out-Step s.1).scatter
   pub settled : IsSettled facts (step_place place s.0 one.tuple) one.inputs (out-Workflow w).steps one.env
   pub table : IsTableOf one.readers (out-Workflow w).steps
+  pub counted : IsCounted one.env (out-Workflow w).steps one.counts.items
   pub along : More
 
 -- one inside another, the outermost first
@@ -89,19 +92,21 @@ MayKeep facts place inputs env s number (one ∷ deeper) = one.number ≡ number
 abbrev pub SettledIn : Facts → JobPlace → Process-F Process Step Workflow → Nested → List Nested → Type 0
 SettledIn facts own process one deeper =
     OfWorkflow (λ w. IsSettled facts own one.inputs (out-Workflow w).steps one.env × KeepsAlong facts own one.inputs (out-Workflow w).steps one.env deeper
-    × IsTableOf one.readers (out-Workflow w).steps) process
+    × IsTableOf one.readers (out-Workflow w).steps × IsCounted one.env (out-Workflow w).steps one.counts.items) process
 
-pub record HasGone (facts : Facts) (own : JobPlace) (w : Workflow) (kept : Nested) (env : Env) (deeper : List Nested) (walk : KeptWalk) : Type 0 where
+pub record HasGone (facts : Facts) (own : JobPlace) (w : Workflow) (kept : Nested) (env : Env) (counts : Vec ℕ) (deeper : List Nested) (walk : KeptWalk) : Type 0 where
   pub outs : walk.outs ≡ (inner_walk w own kept.inputs facts).outs
   pub leaves : LeavesOut (inner_walk w own kept.inputs (facts_before facts)).met (map met_of walk.met) (inner_walk w own kept.inputs facts).met
   pub settled : IsSettled facts own kept.inputs (out-Workflow w).steps env
+  pub counted : IsCounted env (out-Workflow w).steps counts.items
   pub along : KeepsAlong facts own kept.inputs (out-Workflow w).steps env deeper
 
 pub record GoesOnIn (facts : Facts) (own : JobPlace) (process : Process-F Process Step Workflow) (kept : Nested) (inner : Inner) : Type 0 where
   pub env : Env
+  pub counts : Vec ℕ
   pub deeper : List Nested
-  pub is : reverse inner.nested ≡ record { number = kept.number; tuple = kept.tuple; inputs = kept.inputs; readers = kept.readers; env = env } ∷ deeper
-  pub gone : OfWorkflow (λ w. HasGone facts own w kept env deeper inner.walk) process
+  pub is : reverse inner.nested ≡ record { number = kept.number; tuple = kept.tuple; inputs = kept.inputs; readers = kept.readers; env = env; counts = counts } ∷ deeper
+  pub gone : OfWorkflow (λ w. HasGone facts own w kept env counts deeper inner.walk) process
 
 -- ---- the inner walk begins
 
@@ -131,18 +136,20 @@ pub record Hands (facts : Facts) (inputs : Fields) (env : Env) (step : Step) (tu
   pub made : by_link (value_froms (out-Step step).inputs fields) ≡ Ok given
   pub run : goes_on (out-Step step).when given ≡ Ok true
 
-pub record IsBegun (facts : Facts) (own : JobPlace) (w : Workflow) (given inputs : Fields) (readers : Readers) (env : Env) (walk : KeptWalk) : Type 0 where
+pub record IsBegun (facts : Facts) (own : JobPlace) (w : Workflow) (given inputs : Fields) (readers : Readers) (env : Env) (counts : Vec ℕ) (walk : KeptWalk) : Type 0 where
   pub hands : workflow_inputs_for facts.measures (out-Workflow w).inputs given ≡ Ok inputs
   pub whole : walk_of walk ≡ inner_walk w own inputs facts
   pub settled : IsSettled facts own inputs (out-Workflow w).steps env
   pub table : IsTableOf readers (out-Workflow w).steps
+  pub counted : IsCounted env (out-Workflow w).steps counts.items
 
 pub record HasBegun (facts : Facts) (own : JobPlace) (process : Process-F Process Step Workflow) (given : Fields) (number : ℕ) (tuple : List ℕ) (inner : Inner) : Type 0 where
   pub inputs : Fields
   pub readers : Readers
   pub env : Env
-  pub is : reverse inner.nested ≡ record { number = number; tuple = tuple; inputs = inputs; readers = readers; env = env } ∷ []
-  pub begun : OfWorkflow (λ w. IsBegun facts own w given inputs readers env inner.walk) process
+  pub counts : Vec ℕ
+  pub is : reverse inner.nested ≡ record { number = number; tuple = tuple; inputs = inputs; readers = readers; env = env; counts = counts } ∷ []
+  pub begun : OfWorkflow (λ w. IsBegun facts own w given inputs readers env counts inner.walk) process
 
 abbrev pub BeginsAs : Facts → JobPlace → Workflow → Fields → ℕ → List ℕ → Inner → Type 0
 BeginsAs facts own w given number tuple inner = HasBegun facts own (Process-F.Workflow w) given number tuple inner
@@ -150,21 +157,23 @@ BeginsAs facts own w given number tuple inner = HasBegun facts own (Process-F.Wo
 -- ---- what the step meets by it
 
 module _ (facts : Facts) (place : JobPlace) (inputs : Fields) (env : Env) (s : Name × Step) where
-  pub record IsInner (w : Workflow) (tuple : List ℕ) (own : Fields) (readers : Readers) (own_env : Env) (deeper : List Nested) (walk : KeptWalk) : Type 0 where
+  pub record IsInner (w : Workflow) (tuple : List ℕ) (own : Fields) (readers : Readers) (own_env : Env) (counts : Vec ℕ) (deeper : List Nested) (walk : KeptWalk) : Type 0 where
     pub inside : IsInside facts place inputs env s w tuple own (out-Step s.1).scatter
     pub outs : walk.outs ≡ (inner_walk w (step_place place s.0 tuple) own facts).outs
     pub leaves : LeavesOut (inner_walk w (step_place place s.0 tuple) own (facts_before facts)).met (map met_of walk.met) (inner_walk w (step_place place s.0 tuple) own facts).met
     pub settled : IsSettled facts (step_place place s.0 tuple) own (out-Workflow w).steps own_env
     pub table : IsTableOf readers (out-Workflow w).steps
+    pub counted : IsCounted own_env (out-Workflow w).steps counts.items
     pub along : KeepsAlong facts (step_place place s.0 tuple) own (out-Workflow w).steps own_env deeper
 
   pub record HasInner (number : ℕ) (tuple : List ℕ) (inner : Inner) : Type 0 where
     pub own : Fields
     pub readers : Readers
     pub own_env : Env
+    pub counts : Vec ℕ
     pub deeper : List Nested
-    pub is : reverse inner.nested ≡ record { number = number; tuple = tuple; inputs = own; readers = readers; env = own_env } ∷ deeper
-    pub holds : OfWorkflow (λ w. IsInner w tuple own readers own_env deeper inner.walk) (out-Process (out-Step s.1).process)
+    pub is : reverse inner.nested ≡ record { number = number; tuple = tuple; inputs = own; readers = readers; env = own_env; counts = counts } ∷ deeper
+    pub holds : OfWorkflow (λ w. IsInner w tuple own readers own_env counts deeper inner.walk) (out-Process (out-Step s.1).process)
 
   -- the inner walk, and whether the outputs of the step stay
   pub record IsFound (inner : Option Inner) (found : Found) : Type 0 where
@@ -182,4 +191,5 @@ pub record GoesDeeper (facts : Facts) (place : JobPlace) (inputs : Fields) (outp
   pub met : LeavesOut (steps_walk outputs (steps_of (facts_before facts) steps) place inputs).met (map met_of deeper.walk.met) (steps_walk outputs (steps_of facts steps) place inputs).met
   pub outs : deeper.walk.outs ≡ (steps_walk outputs (steps_of facts steps) place inputs).outs
   pub env : IsSettled facts place inputs steps deeper.env
+  pub counted : IsCounted deeper.env steps deeper.counts.items
   pub along : KeepsAlong facts place inputs steps deeper.env (reverse deeper.nested)

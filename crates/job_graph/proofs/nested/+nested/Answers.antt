@@ -10,6 +10,7 @@ use Rattle.job_graph.specs.Equations.{step_place}
 use Rattle.job_graph.specs.Words.{JobPlace, Name}
 use Rattle.job_graph.specs.inner.Going.{EndedBelow, facts_before}
 use Rattle.job_graph.specs.inner.Nested.{GoesOnIn, HasInner, KeepsAlong, MayKeep}
+use Rattle.job_graph.specs.inner.Counts.{IsCounted}
 use Rattle.job_graph.specs.inner.Readers.{IsTableOf}
 use Rattle.job_graph.specs.inner.Rounds.{IsSettled}
 use Rattle.job_graph.proofs.Inward.{IsStepAbove, ended_step, form_is, nested_ok, reverse_push, settled_at, step_is_above, went_on}
@@ -89,7 +90,8 @@ pub go_on-walk_deeper-requires : goal.go_on-walk_deeper-requires
 go_on-walk_deeper-requires t c =
     let settled : IsSettled (facts_before c.args.facts.now) c.in_ok-own-in-Workflow.own c.args.one.inputs (out-Workflow c.in-Workflow.workflow).steps c.args.one.env
     × KeepsAlong (facts_before c.args.facts.now) c.in_ok-own-in-Workflow.own c.args.one.inputs (out-Workflow c.in-Workflow.workflow).steps c.args.one.env (reverse c.args.nested)
-    × IsTableOf c.args.one.readers (out-Workflow c.in-Workflow.workflow).steps =
+    × IsTableOf c.args.one.readers (out-Workflow c.in-Workflow.workflow).steps
+    × IsCounted c.args.one.env (out-Workflow c.in-Workflow.workflow).steps c.args.one.counts.items =
     settled_at (facts_before c.args.facts.now) c.in_ok-own-in-Workflow.own (step_place c.args.place.now c.args.id.now c.args.one.tuple) c.in_ok-own-in-Workflow.ensures
     c.args.process.now c.in-Workflow.workflow c.in-Workflow.is c.args.one (reverse c.args.nested) c.requires.settled in (
       omega arith,
@@ -100,9 +102,12 @@ go_on-walk_deeper-requires t c =
           (
             settled.2,
             (
-              subst (λ (own : JobPlace). EndedBelow c.args.facts.now own c.args.rest.now) (sym c.in_ok-own-in-Workflow.ensures) c.requires.ended,
-              inside_workflow c.in-Workflow.workflow
-                  (root_apart c.args.process.now c.in-Workflow.workflow (form_is c.args.process.now c.in-Workflow.workflow c.in-Workflow.is) c.requires.apart),
+              settled.3,
+              (
+                subst (λ (own : JobPlace). EndedBelow c.args.facts.now own c.args.rest.now) (sym c.in_ok-own-in-Workflow.ensures) c.requires.ended,
+                inside_workflow c.in-Workflow.workflow
+                    (root_apart c.args.process.now c.in-Workflow.workflow (form_is c.args.process.now c.in-Workflow.workflow c.in-Workflow.is) c.requires.apart),
+              ),
             ),
           ),
         ),

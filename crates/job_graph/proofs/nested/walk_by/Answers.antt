@@ -9,5 +9,6 @@ returns-in_ok-walked-in-None c =
       met = c.in_ok-walked-in-None.ensures.met;
       outs = c.in_ok-walked-in-None.ensures.outs;
       env = c.in_ok-walked-in-None.ensures.env;
+      counted = c.in_ok-walked-in-None.ensures.counted;
       along = none_along c.args.facts.now c.args.place.now c.args.inputs.now c.args.steps.now c.in_ok-walked-in-None.walked.env c.new.result c.new.ensures;
     })

@@ -17,6 +17,7 @@ returns-then-stays c =
       outs = outs_further c.args.facts.now c.args.place.now c.args.ended.now c.requires.ended c.args.inputs.now c.args.steps.now c.requires.apart c.args.env c.requires.before
           met meets c.args.outputs.now c.in_ok-walk.walk.outs c.in_ok-walk.ensures.outs;
       env = settled_still c.args.facts.now c.args.place.now c.args.ended.now c.requires.ended c.args.inputs.now c.args.steps.now c.requires.apart c.args.env c.requires.before met meets;
+      counted = c.requires.counted;
       along = c.requires.found.along c.args.env (λ step name. stays_itself _);
     })
 
@@ -26,5 +27,6 @@ returns c =
       met = c.in_ok-walked.ensures.met;
       outs = c.in_ok-walked.ensures.outs;
       env = c.in_ok-walked.ensures.env;
+      counted = c.in_ok-walked.ensures.counted;
       along = c.requires.found.along c.in_ok-walked.walked.env c.in_ok-walked.ensures.grown;
     })

@@ -1,7 +1,7 @@
 use Rattle.std.proofs.Common.{◌≡◌, ◌∙◌, ◌+◌, ◌<◌, List, ap, drop, get_or, length, rules, subst, sym, ℕ}
 use Rattle.document_links.specs.declared.process.Step.{Step}
 use Rattle.job_graph.specs.Words.{Name}
-use Rattle.job_graph.specs.inner.Going.{stands_in}
+use Rattle.job_graph.specs.inner.Elements.{stands_in}
 use Rattle.job_graph.proofs.GoingOn.{drop_next, stands_at}
 use Rattle.job_graph.proofs.Hearing.{Hearing, hearing_one}
 use Rattle.job_graph.proofs.waiting.hear_some.Goals as goal

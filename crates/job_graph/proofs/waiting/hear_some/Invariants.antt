@@ -1,5 +1,5 @@
 use Rattle.std.proofs.Common.{drop}
-use Rattle.job_graph.specs.inner.Going.{stands_in}
+use Rattle.job_graph.specs.inner.Elements.{stands_in}
 use Rattle.job_graph.proofs.Hearing.{Hearing}
 use Rattle.job_graph.proofs.waiting.hear_some.Given as goal
 

@@ -1,4 +1,4 @@
-use Rattle.std.proofs.Common.{◌∙◌, length, map, ap, refl, sym}
+use Rattle.std.proofs.Common.{◌∙◌, length, map, ap, refl}
 use Rattle.job_graph.specs.inner.Ended.{ended_of}
 use Rattle.job_graph.specs.inner.Views.{resolved_of}
 use Rattle.job_graph.proofs.Flags.{flags_fit, flags_more}
@@ -6,8 +6,8 @@ use Rattle.job_graph.proofs.OneOpen.{opens_are}
 use Rattle.job_graph.proofs.Unfolds.{blames_more, knows_more, knows_open, knows_still, popped}
 use Rattle.job_graph.proofs.progress.Progress.resolve.Goals as goal
 
-pub is_one_open-is_open-requires : goal.is_one_open-is_open-requires
-is_one_open-is_open-requires c =
+pub sees_open-is_open-requires : goal.sees_open-is_open-requires
+sees_open-is_open-requires c =
     ap length c.as_slice.ensures.value ∙ flags_fit c.args.self.now c.as_slice-2.result.now c.requires.ended c.as_slice-2.ensures
 
 pub end_last-requires : goal.end_last-requires
@@ -23,7 +23,7 @@ pub returns-then-is_open-clause-resolves : goal.returns-then-is_open-clause-reso
 returns-then-is_open-clause-resolves c =
     λ walks learned knows. knows_open walks learned c.args.self.now c.args.resolved c.push.new.self c.end_last.new.ended c.requires knows c.in_ok-push.ensures.ok
     (opens_are c.args.self.now c.args.resolved.at.place c.as_slice.result.now c.as_slice-2.result.now c.requires.ended c.as_slice.ensures.value c.as_slice-2.ensures
-    (sym c.is_one_open-is_open.ensures ∙ c.if-is_open.true))
+    (c.sees_open-is_open.ensures c.if-is_open.true))
     (flags_more c.args.self.now c.args.resolved c.push.new.self c.args.self.now.known c.end_last.new.ended.items c.requires.ended c.in_ok-push.ensures.ok refl c.end_last.ensures)
 
 pub returns-in-Ok-clause-resolves : goal.returns-in-Ok-clause-resolves
