@@ -12,7 +12,6 @@ took sixteen times as long as the one before, is left out. Needs Python 3.8 or l
 """
 
 import json
-import os
 import statistics
 import subprocess
 import sys
@@ -123,18 +122,32 @@ SHAPES = [
 ]
 
 
+def peak(child):
+    """Returns the peak of a program's memory in kB once it has ended. The system is asked while it runs: what `wait4` tells at its end
+    is never below the memory of Python, which started it."""
+    most = 0
+    while child.poll() is None:
+        try:
+            with open(f"/proc/{child.pid}/status", encoding="ascii") as status:
+                most = max([most, *(int(line.split()[1]) for line in status if line.startswith("VmHWM:"))])
+        except (FileNotFoundError, ProcessLookupError):
+            pass
+        time.sleep(0.002)
+    return most
+
+
 def asked(program, row):
     """Returns what the program answers to a row, and the peak of its memory in MB."""
     with tempfile.TemporaryFile() as given, tempfile.TemporaryFile() as answer:
         given.write(row)
         given.seek(0)
         child = subprocess.Popen([program], stdin=given, stdout=answer)
-        _, status, used = os.wait4(child.pid, 0)
+        most = peak(child)
         answer.seek(0)
         text = answer.read().decode()
-        if status or not text.startswith("r {"):
-            sys.exit(f"the program answers {text[:200]!r}, status {status}")
-        return json.loads(text[2:]), used.ru_maxrss / 1024
+        if child.returncode or not text.startswith("r {"):
+            sys.exit(f"the program answers {text[:200]!r}, status {child.returncode}")
+        return json.loads(text[2:]), most / 1024
 
 
 def times_of(program, row):

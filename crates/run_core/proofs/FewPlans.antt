@@ -1,5 +1,5 @@
 -- A plan that is made by what has changed is one of the costs of all.
-use Rattle.std.specs.Prelude.{◌↔◌, ◌<◌, ◌≤◌, Contains, IfOk, IfSome, IsSome, IsTrue, MatchOption, Result, Ok, Err, slice_get, slice_index_or}
+use Rattle.std.specs.Prelude.{◌↔◌, ◌<◌, ◌≤◌, Contains, IfOk, IfSome, IsSome, MatchOption, Result, Ok, Err, slice_get, slice_index_or}
 use Rattle.std.proofs.Common.{true, false, get_or, ◌≡◌, ◌≢◌, ◌∙◌, ◌⊎◌, inl, inr, ⊎_elim, ◌+◌, ◌-◌, ℕ, zero, suc, List, [], ◌∷◌, ◌++◌, length, map, set, Option, Some, None, refl, sym, ap, ap₂, subst, arith}
 use Rattle.std.proofs.Math.ListN.{get_or-eq_default}
 use Rattle.std.proofs.lemmas.Bool.{cases_eq, cases_lt}
@@ -13,8 +13,7 @@ use Rattle.job_graph.specs.declared.unfolding.Unfolding.{Unfolding}
 use Rattle.plan_checker.specs.Graph.{no_vertex, vertex}
 use Rattle.plan_checker.specs.declared.vertex.Vertex.{Vertex}
 use Rattle.plan_keeper.specs.declared.planned.Planned.{Planned}
-use Rattle.plan_keeper.specs.Free.{IsFree}
-use Rattle.run_plan.specs.Brought.{AreFree, AreFreeing, AreStaying, CanBeBrought, StaysApart}
+use Rattle.run_plan.specs.Brought.{AreFree, AreFreeing, CanBeBrought, StaysApart}
 use Rattle.run_plan.specs.Planned.{IsPlanOf}
 use Rattle.run_plan.specs.declared.kept.NextPlan.{NextPlan}
 use Rattle.run_plan.specs.Touched.{costs_after, costs_in, graph_in, patched}
@@ -23,7 +22,7 @@ use Rattle.run_core.specs.declared.state.Course.{Course}
 use Rattle.run_core.specs.declared.state.Given.{Given}
 use Rattle.run_core.specs.inner.Course.{known_in, past_of}
 use Rattle.run_core.specs.inner.Few.{AreFew}
-use Rattle.run_core.specs.inner.Fits.{Fits, costs_by}
+use Rattle.run_core.specs.inner.Fits.{costs_by}
 use Rattle.run_core.specs.inner.Planning.{AreCosts, IsNextAt, IsPlanAt, IsToldPlan, PlansNothing, costs_at, refused, unknown}
 use Rattle.run_core.specs.inner.Touched.{IsTouched}
 use Rattle.run_core.proofs.FewTouched.{get_before}

@@ -1,6 +1,7 @@
 pub mod Asked
 pub mod Choices
 pub mod Choosing
+pub mod Counted
 pub mod FewPlans
 pub mod FewTouched
 pub mod Fits

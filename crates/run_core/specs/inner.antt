@@ -1,3 +1,5 @@
+pub mod Answered
+pub mod Asked
 pub mod Anyway
 pub mod Archives
 pub mod Attempts

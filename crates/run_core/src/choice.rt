@@ -147,7 +147,7 @@ pub(crate) fn sources_of(
 {
     let sources = Sources {
         work: &options.work,
-        known: known_in(&course.known),
+        known: &course.known,
         jobs: course.jobs.as_slice(),
     };
     moved_fields(alloc, Way::Left(sources), values)

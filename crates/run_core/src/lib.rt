@@ -36,6 +36,7 @@ mod state;
 mod steps;
 mod stops;
 mod touches;
+mod transcript;
 mod turn;
 mod turns;
 

@@ -1,14 +1,14 @@
 //! Values whose files stand elsewhere.
-ghost use Rattle.std.specs.Prelude.{◌≡◌, IfOk, map};
+ghost use Rattle.std.specs.Prelude.{◌≡◌, IfOk, map, option_copied};
 ghost use Rattle.run_rules.specs.Delivered.{location_place, made_path};
 ghost use Rattle.job_graph.specs.Made.{value_moved, fields_moved};
-ghost use Rattle.run_core.specs.inner.Places.{file_elsewhere, dir_elsewhere, file_with, fetched_at_source, left_place, left_at_source, number_at_source, place_by};
+ghost use Rattle.run_core.specs.inner.Places.{file_elsewhere, dir_elsewhere, file_with, left_by, left_place, left_at_source, place_by};
 
 use crate::folders::{Left, left_folder, path_in};
 use crate::job_states::JobState;
 use cwl_value::{DirVal, FileVal, JobPlace, Place, Value};
 use file_values::path_to_location;
-use job_graph::{KnownJob, Sought};
+use job_graph::Unfolding;
 use plain_data::{Items, Keyed, Text};
 use std::alloc::{AllocError, Global};
 
@@ -16,7 +16,7 @@ use std::alloc::{AllocError, Global};
 #[derive(Clone, Copy, Drop)]
 pub(crate) struct Sources<'s, 'a> {
     pub work: &'s Text,
-    pub known: &'s [KnownJob<'a>],
+    pub known: &'s Option<Unfolding<'a>>,
     pub jobs: &'s [JobState],
 }
 
@@ -158,36 +158,29 @@ fn left_place(alloc: Global, sources: Sources<'_, '_>, place: &Place) -> Result<
 fn left_in(sources: Sources<'_, '_>, place: &JobPlace) -> Left
     ensures { result ≡ left_at_source sources.entry place.now }
 {
-    Left {
-        fetched: fetched_in(sources, place),
-        number: number_in(sources, place),
+    match sources.known {
+        None => left_by(None),
+        Some(known) => match known.number_of(place) {
+            None => left_by(None),
+            Some(number) => left_by(sources.jobs.get(number)),
+        },
     }
 }
 
-/// The number of the folders of the job at a place; 0 where it has none.
-fn number_in(sources: Sources<'_, '_>, place: &JobPlace) -> u64
-    ensures { result ≡ number_at_source sources.entry place.now }
+/// The folder that a job has; none without one.
+fn left_by(job: Option<&JobState>) -> Left
+    ensures { result ≡ left_by (option_copied job.entry) }
 {
-    let sought = Sought::new(place.as_slice());
-    for (known, job) in sources.known.iter().zip(sources.jobs) {
-        if sought.is_of(known) {
-            return job.folder;
-        }
+    match job {
+        None => Left {
+            fetched: false,
+            number: 0,
+        },
+        Some(job) => Left {
+            fetched: job.fetched,
+            number: job.folder,
+        },
     }
-    0
-}
-
-/// Whether these are of a fetch.
-fn fetched_in(sources: Sources<'_, '_>, place: &JobPlace) -> bool
-    ensures { result ≡ fetched_at_source sources.entry place.now }
-{
-    let sought = Sought::new(place.as_slice());
-    for (known, job) in sources.known.iter().zip(sources.jobs) {
-        if sought.is_of(known) {
-            return job.fetched;
-        }
-    }
-    false
 }
 
 /// The path of what has this name below a folder; `.` is the folder itself.

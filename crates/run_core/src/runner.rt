@@ -1,4 +1,4 @@
-ghost use Rattle.std.specs.Prelude.{◌≡◌, ◌≢◌, ◌↔◌, ◌+◌, ◌<◌, ◌≤◌, ◌∷◌, ◌++◌, [], None, Err, IfOk, IfErr, OnOk, length, option_map, vec_len, vec_capacity};
+ghost use Rattle.std.specs.Prelude.{◌≡◌, ◌≢◌, ◌↔◌, ◌+◌, ◌<◌, ◌≤◌, [], None, Err, IfOk, IfErr, OnOk, length, option_map, vec_len, vec_capacity};
 ghost use Rattle.proc_host.specs.declared.call.HostRequest.{HostRequest};
 ghost use Rattle.run_rules.specs.declared.outcome.RunFault.{RunFault};
 ghost use Rattle.run_rules.specs.declared.request.Request.{Request};
@@ -10,6 +10,7 @@ ghost use Rattle.run_core.specs.declared.state.Phase.{Phase};
 ghost use Rattle.run_core.specs.Core.{HasCounted, HasNotRunOut, HasPlans, Halts, IsAtRest, IsLost, MayAsk, MayTake, Begins, StaysLost, Took, GaveUp};
 ghost use Rattle.run_rules.specs.Limits.{IsWithinLimits};
 ghost use Rattle.run_core.specs.Machine.{plan_of};
+ghost use Rattle.run_core.specs.inner.Answered.{most_answers};
 ghost use Rattle.run_core.specs.inner.Course.{past_of};
 ghost use Rattle.run_core.specs.inner.Follows.{AsksIn, AsksOf, HasPairs, IsReadyFor, MakesRoom, Moves, told_of};
 ghost use Rattle.run_core.specs.inner.Measures.{Begins as BeginsAt};
@@ -24,8 +25,9 @@ use crate::halted::{Halted, Noted, noted_in, what_is_left};
 use crate::measuring::begun;
 use crate::state::{Course, Given, Phase, Turn};
 use crate::steps::answered;
+use crate::transcript::Transcript;
 use crate::turn::{ended, given_up, lost};
-use crate::{Answer, Options, Outcome, Pair, Report, Request, RunFault};
+use crate::{Answer, Options, Outcome, Report, Request, RunFault};
 use cwl_value::Value;
 use document_links::Process;
 use job_graph::see_ids;
@@ -44,7 +46,7 @@ use std::mem;
 pub struct RunCore<'a> {
     alloc: Global,
     given: Given<'a>,
-    pairs: Vec<Pair>,
+    pairs: Transcript,
     course: Course<'a>,
     turn: Turn,
 }
@@ -88,10 +90,10 @@ impl<'a> RunCore<'a> {
             rates,
             answers: 0,
         };
-        let mut pairs = Vec::new(alloc);
+        let pairs = Transcript::new();
         let mut course = at_first(alloc);
         let mut turn = ended(Err(RunFault::OutOfMemory));
-        match start(alloc, &given, &mut pairs, &mut course, &mut turn) {
+        match start(alloc, &given, &mut course, &mut turn) {
             Ok(()) => Ok(RunCore {
                 alloc,
                 given,
@@ -185,7 +187,7 @@ impl<'a> RunCore<'a> {
         ensures { Took self.old answer result self.new }
     {
         can_go_on(&self.course, &self.turn.phase, &answer);
-        self.given.answers = self.pairs.len() as u64 + 1;
+        self.given.answers = self.pairs.count + 1;
         let request = step(
             self.alloc,
             &self.given,
@@ -193,13 +195,8 @@ impl<'a> RunCore<'a> {
             &mut self.turn,
             &answer,
         );
-        note(&mut self.pairs, request, answer);
-        make_room(
-            self.alloc,
-            &mut self.pairs,
-            &mut self.course,
-            &mut self.turn,
-        );
+        self.pairs.note(request, answer);
+        make_room(self.alloc, &self.pairs, &mut self.course, &mut self.turn);
         told_of(&self.turn.phase)
     }
 
@@ -253,23 +250,20 @@ impl<'a> RunCore<'a> {
     }
 }
 
-/// Comes to the first turn, with room for one pair and one more.
+/// Comes to the first turn, with room for one child.
 fn start<'a>(
     alloc: Global,
     given: &Given<'a>,
-    pairs: &mut Vec<Pair>,
     course: &mut Course<'a>,
     turn: &mut Turn,
 ) -> Result<(), AllocError>
     requires { course.old.folders ≡ 0 }
-    ensures items { pairs.new.items ≡ pairs.old.items }
-    ensures room { OnOk result (vec_len pairs.new + 2 ≤ vec_capacity pairs.new) }
     ensures begins { OnOk result (BeginsAt given.now course.old turn.new course.new) }
     ensures one_more { OnOk result (HasRoom course.new turn.new.phase) }
 {
     let first = begun(alloc, given, course)?;
     mem::drop(mem::replace(turn, first));
-    reserve(pairs, course)
+    reserve_one(course)
 }
 
 /// Moves to the state that follows from the answer, and gives back what was asked.
@@ -315,26 +309,13 @@ fn next_turn<'a>(
     }
 }
 
-/// Adds a pair where there is room for it.
-fn note(pairs: &mut Vec<Pair>, request: Request, answer: Answer)
-    requires { vec_len pairs.old < vec_capacity pairs.old }
-    ensures items { pairs.new.items ≡ pairs.old.items
-        ++ record { request = request; answer = answer } ∷ [] }
-    ensures len { vec_len pairs.new ≡ vec_len pairs.old + 1 }
-    ensures room { vec_capacity pairs.old ≤ vec_capacity pairs.new }
-{
-    pairs.push(Pair { request, answer }).unwrap();
-}
-
 /// Makes room for what comes next. Where there is none, nothing but the ends of the children in flight is asked for, and
 /// they have room.
-fn make_room(alloc: Global, pairs: &mut Vec<Pair>, course: &mut Course<'_>, turn: &mut Turn)
-    requires { HasPairs (vec_len pairs.old) (vec_capacity pairs.old) (past_of course.old) turn.old }
-    ensures items { pairs.new.items ≡ pairs.old.items }
+fn make_room(alloc: Global, pairs: &Transcript, course: &mut Course<'_>, turn: &mut Turn)
+    requires { HasPairs pairs.now.count most_answers (past_of course.old) turn.old }
     ensures past { past_of course.new ≡ past_of course.old }
     ensures known { course.new.known ≡ course.old.known }
-    ensures room { MakesRoom (vec_len pairs.new) (vec_capacity pairs.new) (past_of course.old)
-        turn.old turn.new }
+    ensures room { MakesRoom pairs.now.count most_answers (past_of course.old) turn.old turn.new }
     ensures one_more { HasRoom course.new turn.new.phase }
 {
     match turn.phase {
@@ -347,21 +328,18 @@ fn make_room(alloc: Global, pairs: &mut Vec<Pair>, course: &mut Course<'_>, turn
     }
 }
 
-/// Makes room for one more child, and for the pairs that come next: the answer to what is asked, and the
-/// end of each child in flight. Where it fails there is still the room that there was.
-fn reserve(pairs: &mut Vec<Pair>, course: &mut Course<'_>) -> Result<(), AllocError>
-    ensures items { pairs.new.items ≡ pairs.old.items }
-    ensures len { vec_len pairs.new ≡ vec_len pairs.old }
+/// Makes room for one more child, where the answers that come next can be counted: that to what is asked, and the
+/// end of each child in flight.
+fn reserve(pairs: &Transcript, course: &mut Course<'_>) -> Result<(), AllocError>
     ensures past { past_of course.new ≡ past_of course.old }
     ensures known { course.new.known ≡ course.old.known }
-    ensures kept { vec_capacity pairs.old ≤ vec_capacity pairs.new }
-    ensures pairs { OnOk result (vec_len pairs.new + (length course.old.tickets.items + 2)
-        ≤ vec_capacity pairs.new) }
+    ensures pairs { OnOk result (pairs.now.count + (length course.old.tickets.items + 2)
+        ≤ most_answers) }
     ensures tickets { OnOk result (vec_len course.new.tickets < vec_capacity course.new.tickets) }
     ensures flights { OnOk result (vec_len course.new.flights < vec_capacity course.new.flights) }
 {
     // One more, since a start is answered by one more child in flight.
-    pairs.reserve(course.tickets.len().saturating_add(2))?;
+    pairs.room_for(course.tickets.len().saturating_add(2))?;
     reserve_one(course)
 }
 

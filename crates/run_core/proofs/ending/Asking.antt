@@ -15,6 +15,7 @@ use Rattle.run_core.specs.inner.Inside.{Goes, Stands, mode_of, off_run, on_run, 
 use Rattle.run_core.specs.inner.Course.{Past, past_of}
 use Rattle.run_core.specs.inner.Standing.{IsLostAt, RanOut, draining, lost}
 use Rattle.run_core.proofs.going.Asked.{collects_some}
+use Rattle.run_core.specs.inner.Asked.{pairs_in}
 use Rattle.run_core.proofs.going.Given.{allows, is_first, laws_of}
 
 -- Where memory ran out
@@ -35,7 +36,7 @@ lost_some past lost asks = absurd (asks refl)
 
 module _ (core : Inside) where
   waits_so : Goes core → (place : JobPlace) → core.turn.asks ≡ Request.Host place HostRequest.Collect → core.course.tickets.items ≢ []
-  waits_so (on_run runs) place asks = collects_some (scene_of (setting_in core.given)) core.pairs.items core.course core.turn place runs asks
+  waits_so (on_run runs) place asks = collects_some (scene_of (setting_in core.given)) (pairs_in core.pairs) core.course core.turn place runs asks
   waits_so (off_run out) place asks = lost_waits (past_of core.course) place out.at asks
 
   pub waits_for_one : Stands core → (place : JobPlace) → core.turn.asks ≡ Request.Host place HostRequest.Collect → core.course.tickets.items ≢ []
@@ -44,10 +45,10 @@ module _ (core : Inside) where
   may_ask_so : Stands core → Goes core → core.turn.asks ≢ Request.Finished → MayAsk (seen core)
   may_ask_so stands (on_run runs) asks =
       allowed runs.happened runs.plans runs.goes runs.planned.0
-      (allows core.given stands.rates (laws_of core.given stands.accepted stands.ids) stands.limits.least_slots core.pairs.items core.course core.turn runs asks)
-      (is_first core.given stands.rates (laws_of core.given stands.accepted stands.ids) stands.limits.least_slots core.pairs.items core.course core.turn runs asks)
+      (allows core.given stands.rates (laws_of core.given stands.accepted stands.ids) stands.limits.least_slots (pairs_in core.pairs) core.course core.turn runs asks)
+      (is_first core.given stands.rates (laws_of core.given stands.accepted stands.ids) stands.limits.least_slots (pairs_in core.pairs) core.course core.turn runs asks)
       (next_under_key (scene_of (setting_in core.given)) (InForce (scene_of (setting_in core.given))) runs.goes stands.answered core.turn.asks
-      (allows core.given stands.rates (laws_of core.given stands.accepted stands.ids) stands.limits.least_slots core.pairs.items core.course core.turn runs asks))
+      (allows core.given stands.rates (laws_of core.given stands.accepted stands.ids) stands.limits.least_slots (pairs_in core.pairs) core.course core.turn runs asks))
   may_ask_so stands (off_run out) asks =
       drains out.front out.tail out.happened out.plans out.goes out.collects out.pairs (lost_some (past_of core.course) out.at asks)
       (lost_collects (past_of core.course) out.at asks)
@@ -58,7 +59,7 @@ module _ (core : Inside) where
 -- What it shows
 
 module _ (core : Inside) where
-  never_out : RanOut (scene_of (setting_in core.given)) core.pairs.items (past_of core.course) core.turn → HasNotRunOut (seen core) → ⊥
+  never_out : RanOut (scene_of (setting_in core.given)) (pairs_in core.pairs) (past_of core.course) core.turn → HasNotRunOut (seen core) → ⊥
   never_out out going = lost_by core.turn refl out.at
     where
       lost_by : (turn : Turn) → core.turn ≡ turn → IsLostAt (past_of core.course) turn → ⊥

@@ -25,6 +25,7 @@ use Rattle.run_core.specs.inner.Course.{Past, past_of}
 use Rattle.run_core.specs.inner.Turn.{IsEnded}
 use Rattle.run_core.specs.inner.Standing.{IsAt, IsLostAt, Runs, collecting, delivering, draining, ended, lost, measuring, staging, working, finding, putting, storing, discarding, dropping, fetching, touching}
 use Rattle.run_rules.specs.declared.outcome.Note.{Note}
+use Rattle.run_core.specs.inner.Asked.{pairs_in}
 use Rattle.run_rules.specs.declared.outcome.PlanNote.{PlanNote}
 
 -- the law that what is reported of a run is right in each world where it is honest
@@ -99,19 +100,19 @@ lost_asks_no_more past lost asks = tt
 -- Wherever the machine is
 
 module _ (core : Inside) where
-  lost_so : Goes core → Concludes (setting_in core.given) core.pairs.items (Err RunFault.OutOfMemory)
-  lost_so (on_run runs) = reports.lost core.pairs.items [] runs.happened runs.plans runs.goes tt (sym (append-nil core.pairs.items))
+  lost_so : Goes core → Concludes (setting_in core.given) (pairs_in core.pairs) (Err RunFault.OutOfMemory)
+  lost_so (on_run runs) = reports.lost (pairs_in core.pairs) [] runs.happened runs.plans runs.goes tt (sym (append-nil (pairs_in core.pairs)))
   lost_so (off_run out) = reports.lost out.front out.tail out.happened out.plans out.goes out.collects out.pairs
 
   concludes_so : (law : ReportsRightly) (result : Result Outcome RunFault) → ids_differ core.given.process.now ≡ true → Goes core → core.turn.phase ≡ Phase.Ended result →
-      Concludes (setting_in core.given) core.pairs.items (reported (past_of core.course).plans (past_of core.course).notes result)
-  concludes_so law result ids (on_run runs) phase = whole_run law (setting_in core.given) core.pairs.items core.course core.turn result ids runs phase
+      Concludes (setting_in core.given) (pairs_in core.pairs) (reported (past_of core.course).plans (past_of core.course).notes result)
+  concludes_so law result ids (on_run runs) phase = whole_run law (setting_in core.given) (pairs_in core.pairs) core.course core.turn result ids runs phase
   concludes_so law result ids (off_run out) phase =
-      lost_at (setting_in core.given) core.pairs.items (past_of core.course) (past_of core.course).plans (past_of core.course).notes result out.at phase (lost_so (off_run out))
+      lost_at (setting_in core.given) (pairs_in core.pairs) (past_of core.course) (past_of core.course).plans (past_of core.course).notes result out.at phase (lost_so (off_run out))
 
   -- where it has ended
   pub concludes : (law : ReportsRightly) (result : Result Outcome RunFault) → Stands core → core.turn.phase ≡ Phase.Ended result →
-      Concludes (setting_in core.given) core.pairs.items (reported (past_of core.course).plans (past_of core.course).notes result)
+      Concludes (setting_in core.given) (pairs_in core.pairs) (reported (past_of core.course).plans (past_of core.course).notes result)
   concludes law result stands = concludes_so law result stands.ids stands.going
 
   ended_so : Goes core → core.turn.asks ≡ Request.Finished → IsEnded core.turn.phase

@@ -24,6 +24,7 @@ use Rattle.run_core.specs.inner.Keeps.{Reflects}
 use Rattle.run_core.specs.inner.Planning.{shown}
 use Rattle.run_core.specs.inner.Standing.{IsAt, IsLostAt, KnowsJobs, RanOut, collecting, delivering, draining, ended, lost, measuring, staging, working, finding, putting, storing, discarding, dropping, fetching, touching}
 use Rattle.run_core.proofs.going.Given.{allows, laws_of}
+use Rattle.run_core.specs.inner.Asked.{pairs_in}
 use Rattle.run_core.proofs.going.Picking.{all_known}
 
 same_jobs : (known : Option Unfolding) → jobs_of known ≡ known_in known
@@ -79,7 +80,7 @@ module _ (s : Scene) (f : Progress) (marks : List Mark) (course : Course) where
 
 module _ (core : Inside) where
   -- where memory ran out, it waits for a child or has ended so
-  never_rests : RanOut (scene_of (setting_in core.given)) core.pairs.items (past_of core.course) core.turn → IsAtRest (seen core) → ⊥
+  never_rests : RanOut (scene_of (setting_in core.given)) (pairs_in core.pairs) (past_of core.course) core.turn → IsAtRest (seen core) → ⊥
   never_rests out rest = by core.turn refl out.at
     where
       by : (turn : Turn) → core.turn ≡ turn → IsLostAt (past_of core.course) turn → ⊥
@@ -93,7 +94,7 @@ module _ (core : Inside) where
     halts_so stands (on_run runs) rest =
         let s : Scene = scene_of (setting_in core.given) in
         let may : core.turn.asks ≢ Request.Finished → Allowed s runs.happened runs.plans.marks core.turn.asks =
-        allows core.given stands.rates (laws_of core.given stands.accepted stands.ids) stands.limits.least_slots core.pairs.items core.course core.turn runs in
+        allows core.given stands.rates (laws_of core.given stands.accepted stands.ids) stands.limits.least_slots (pairs_in core.pairs) core.course core.turn runs in
         record {
           happened = runs.happened;
           plans = runs.plans;

@@ -1,5 +1,5 @@
 -- A new machine stands before any answer.
-use Rattle.std.proofs.Common.{◌≡◌, ◌∙◌, ℕ, ◌+◌, ◌≤◌, true, List, [], length, vec_len, vec_capacity, None, refl, sym, ap, subst, arith}
+use Rattle.std.proofs.Common.{◌≡◌, ◌∙◌, ℕ, ◌+◌, ◌≤◌, true, List, [], length, None, refl, sym, ap, subst, arith}
 use Rattle.proc_host.specs.declared.call.Entry.{Entry}
 use Rattle.workflow_check.specs.Checked.{fault_in}
 use Rattle.job_graph.specs.Apart.{ids_differ}
@@ -19,6 +19,8 @@ use Rattle.run_core.specs.declared.state.Course.{Course}
 use Rattle.run_core.specs.declared.state.Phase.{Phase}
 use Rattle.run_core.specs.inner.Course.{Past, nothing_past, past_of}
 use Rattle.run_core.specs.inner.Measures.{Begins as BeginsAt}
+use Rattle.run_core.specs.inner.Answered.{most_answers}
+use Rattle.run_core.specs.inner.Asked.{pairs_in}
 use Rattle.run_core.specs.inner.Standing.{HasRoom, Runs, pairs_ahead}
 use Rattle.run_core.proofs.going.Given.{begins_run, laws_of}
 use Rattle.run_core.proofs.standing.Answered.{after_measure}
@@ -40,27 +42,27 @@ two_at_most past Phase.Draining = omega arith
 two_at_most past phase = omega arith
 
 module _ (core : Inside) (limits : IsWithinLimits core.given.options) (rated : core.given.rates ≡ rates_of core.given.options) (unanswered : core.given.answers ≡ 0) (accepted : fault_in core.given.process.now ≡ None) (ids : ids_differ core.given.process.now ≡ true)
-    (empty : core.pairs.items ≡ []) (fits : vec_len core.pairs + 2 ≤ vec_capacity core.pairs) (old : Course) (nothing : past_of old ≡ nothing_past) (none : old.known ≡ None)
+    (empty : (pairs_in core.pairs) ≡ []) (none_counted : core.pairs.count ≡ 0) (old : Course) (nothing : past_of old ≡ nothing_past) (none : old.known ≡ None)
     (begins : BeginsAt core.given old core.turn core.course) (room : HasRoom core.course core.turn.phase) where
   runs : Runs (scene_of (setting_in core.given)) [] core.course core.turn
   runs = begins_run core.given rated (laws_of core.given accepted ids) limits.least_slots unanswered old nothing none core.turn core.course begins
 
-  leaves : Leaves core.given.options (entries_of core.pairs.items) core.turn core.course
+  leaves : Leaves core.given.options (entries_of (pairs_in core.pairs)) core.turn core.course
   leaves =
-      after_measure core.given old (entries_of core.pairs.items) core.turn core.course (few_known (scene_of (setting_in core.given)) [] core.course core.turn runs) begins.measuring
-      (subst (λ (p : Past). Books core.given.options (entries_of core.pairs.items) p) (sym nothing) (nothing_booked core.given.options (entries_of core.pairs.items))) begins.on
+      after_measure core.given old (entries_of (pairs_in core.pairs)) core.turn core.course (few_known (scene_of (setting_in core.given)) [] core.course core.turn runs) begins.measuring
+      (subst (λ (p : Past). Books core.given.options (entries_of (pairs_in core.pairs)) p) (sym nothing) (nothing_booked core.given.options (entries_of (pairs_in core.pairs)))) begins.on
 
   none_flies : core.course.tickets.items ≡ []
   none_flies = measures_fly core.given old begins.measuring core.turn core.course begins.on ∙ ap (λ (p : Past). p.tickets) nothing
 
-  pairs_fit : vec_len core.pairs + pairs_ahead (past_of core.course) core.turn.phase ≤ vec_capacity core.pairs
+  pairs_fit : core.pairs.count + pairs_ahead (past_of core.course) core.turn.phase ≤ most_answers
   pairs_fit =
       let none_long : length core.course.tickets.items ≡ 0 = ap length none_flies in
       let two : pairs_ahead (past_of core.course) core.turn.phase ≤ length core.course.tickets.items + 2 = two_at_most (past_of core.course) core.turn.phase in
-      both_fit (vec_len core.pairs) (vec_capacity core.pairs) (pairs_ahead (past_of core.course) core.turn.phase) (length core.course.tickets.items) fits none_long two
+      both_fit core.pairs.count (pairs_ahead (past_of core.course) core.turn.phase) (length core.course.tickets.items) none_counted none_long two
     where
-      both_fit : (n m a k : ℕ) → n + 2 ≤ m → k ≡ 0 → a ≤ k + 2 → n + a ≤ m
-      both_fit n m a k fits none two = omega (arith, fits, none, two)
+      both_fit : (n a k : ℕ) → n ≡ 0 → k ≡ 0 → a ≤ k + 2 → n + a ≤ most_answers
+      both_fit n a k zero none two = omega (arith, zero, none, two)
 
   pub stands_first : Stands core
   stands_first = record {
@@ -72,7 +74,7 @@ module _ (core : Inside) (limits : IsWithinLimits core.given.options) (rated : c
     answered = subst AreAnswers (sym empty) (λ pair there. absurd (none_in pair there));
     bounded = leaves.bounded;
     blames = leaves.blames;
-    started = λ asks. subst (λ (ns : List ℕ). WereStarted (entries_of core.pairs.items) ns) (sym none_flies) (none_started (entries_of core.pairs.items));
+    started = λ asks. subst (λ (ns : List ℕ). WereStarted (entries_of (pairs_in core.pairs)) ns) (sym none_flies) (none_started (entries_of (pairs_in core.pairs)));
     room = room;
     pairs_room = pairs_fit;
   }

@@ -1,6 +1,6 @@
 -- What the machine is in once it gave up, since memory ran out outside of it.
 use Rattle.std.specs.Prelude.{◌≢◌, ◌-◌, ◌*◌}
-use Rattle.std.proofs.Common.{◌≡◌, ◌∙◌, ℕ, ◌+◌, ◌<◌, ◌≤◌, List, [], ◌∷◌, length, vec_len, vec_capacity, Result, Ok, Err, refl, sym, ap, subst, arith, append-nil}
+use Rattle.std.proofs.Common.{◌≡◌, ◌∙◌, ℕ, ◌+◌, ◌<◌, ◌≤◌, List, [], ◌∷◌, length, Result, Ok, Err, refl, sym, ap, subst, arith, append-nil}
 use Rattle.proc_host.specs.declared.call.Entry.{Entry}
 use Rattle.proc_host.specs.declared.call.HostRequest.{HostRequest}
 use Rattle.plan_checker.specs.declared.plan.Mark.{Mark}
@@ -22,6 +22,8 @@ use Rattle.run_core.specs.inner.Inside.{Goes, Stands, mode_of, off_run, on_run, 
 use Rattle.run_core.specs.inner.Attempts.{StaysBounded, answers_left, many_items, most_stagings, weight_of, weight_of_past}
 use Rattle.run_core.specs.inner.Course.{Past, past_of}
 use Rattle.run_core.specs.inner.Follows.{told_of}
+use Rattle.run_core.specs.inner.Answered.{most_answers}
+use Rattle.run_core.specs.inner.Asked.{pairs_in}
 use Rattle.run_core.specs.inner.Standing.{Blames, HasRoom, IsAt, IsLostAt, RanOut, Runs, collecting, delivering, draining, ended, lost, measuring, pairs_ahead, staging, working, finding, putting, storing, discarding, dropping, touching, fetching}
 use Rattle.run_core.specs.inner.Turn.{ends, given_up, lost_with, waits}
 use Rattle.run_core.proofs.standing.Facts.{never_drains}
@@ -112,8 +114,8 @@ module _ (core : Inside) (asks : core.turn.asks ≢ Request.Finished) where
   not_ended (off_run out) outcome phase = asks (lost_asks_none past out.at outcome phase)
 
   -- on its run, so much is left
-  left_on : Runs s core.pairs.items core.course core.turn → answers_left core.given.options past core.turn.phase ≡ weight_of_past core.given.options past + weight_of core.turn.phase
-  left_on runs = left_now core.given.options past core.turn.phase (never_drains s core.pairs.items core.course core.turn runs) (not_ended (on_run runs))
+  left_on : Runs s (pairs_in core.pairs) core.course core.turn → answers_left core.given.options past core.turn.phase ≡ weight_of_past core.given.options past + weight_of core.turn.phase
+  left_on runs = left_now core.given.options past core.turn.phase (never_drains s (pairs_in core.pairs) core.course core.turn runs) (not_ended (on_run runs))
 
   some_left : Goes core → 0 < answers_left core.given.options past core.turn.phase
   some_left (on_run runs) =
@@ -135,14 +137,14 @@ module _ (core : Inside) (asks : core.turn.asks ≢ Request.Finished) where
 
   -- where it waited for them alone
   was_draining : Goes core → core.turn.phase ≡ Phase.Draining → IsDraining (seen core)
-  was_draining (on_run runs) drains = absurd (never_drains s core.pairs.items core.course core.turn runs drains)
+  was_draining (on_run runs) drains = absurd (never_drains s (pairs_in core.pairs) core.course core.turn runs drains)
   was_draining (off_run out) drains = let its : WaitsForSome past core.turn = lost_waits_for past out.at asks in record { mode = ap mode_of its.is; asks = its.asks_ends }
 
   -- there is room for the ends of the children in flight
   ahead_some : Goes core → length core.course.tickets.items ≤ pairs_ahead past core.turn.phase
   ahead_some (on_run runs) =
       subst (λ n. length core.course.tickets.items ≤ n)
-      (sym (ahead_now past core.turn.phase (never_drains s core.pairs.items core.course core.turn runs) (not_ended (on_run runs)))) (at_least (length core.course.tickets.items))
+      (sym (ahead_now past core.turn.phase (never_drains s (pairs_in core.pairs) core.course core.turn runs) (not_ended (on_run runs)))) (at_least (length core.course.tickets.items))
   ahead_some (off_run out) =
       let its : WaitsForSome past core.turn = lost_waits_for past out.at asks in
       subst (λ (p : Phase). length core.course.tickets.items ≤ pairs_ahead past p) (sym its.is) (at_most (length core.course.tickets.items))
@@ -152,11 +154,11 @@ module _ (core : Inside) (asks : core.turn.asks ≢ Request.Finished) where
   abbrev after : Turn → Inside
   after turn = core_with core core.pairs core.course turn
 
-  off_now : Goes core → (turn : Turn) → IsLostAt past turn → RanOut s core.pairs.items past turn
+  off_now : Goes core → (turn : Turn) → IsLostAt past turn → RanOut s (pairs_in core.pairs) past turn
   off_now (on_run runs) turn at = record {
-    front = core.pairs.items;
+    front = (pairs_in core.pairs);
     tail = [];
-    pairs = sym (append-nil core.pairs.items);
+    pairs = sym (append-nil (pairs_in core.pairs));
     happened = runs.happened;
     plans = runs.plans;
     goes = runs.goes;
@@ -184,10 +186,10 @@ module _ (core : Inside) (asks : core.turn.asks ≢ Request.Finished) where
       going = off_run (off_now stands.going turn at);
       answered = stands.answered;
       bounded = lost_bounded_at core.given.options past at;
-      blames = lost_blames_at (entries_of core.pairs.items) past at;
+      blames = lost_blames_at (entries_of (pairs_in core.pairs)) past at;
       started = λ asks_then. stands.started asks;
       room = lost_room_at core.course at;
-      pairs_room = still_fit (vec_len core.pairs) (vec_capacity core.pairs) (pairs_ahead past turn.phase) (pairs_ahead past core.turn.phase) (length core.course.tickets.items)
+      pairs_room = still_fit core.pairs.count most_answers (pairs_ahead past turn.phase) (pairs_ahead past core.turn.phase) (length core.course.tickets.items)
           (lost_ahead_at past at) (ahead_some stands.going) stands.pairs_room;
     }
 

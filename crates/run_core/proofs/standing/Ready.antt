@@ -29,6 +29,7 @@ use Rattle.run_core.proofs.standing.Lost.{some_there}
 use Rattle.run_core.proofs.standing.Modes.{told_lost}
 use Rattle.run_core.proofs.standing.Taken.{IsGoing, RunsOn, ahead_now, asks_some, not_ended, off, on}
 use Rattle.run_core.proofs.standing.Took.{going_of}
+use Rattle.run_core.specs.inner.Asked.{pairs_in}
 use Rattle.run_core.proofs.standing.Weights.{folders_at_most}
 
 -- its run goes on while memory is there
@@ -38,8 +39,8 @@ runs_on_of given t counted rated accepted ids some =
     let laws : Laws (scene_of (setting_in given)) = laws_of given accepted ids in
     record { follows_on = follows_on given rated laws some t counted; allows = allows given rated laws some t }
 
-pub runs_on : (core : Inside) → core.given.answers ≡ length core.pairs.items + 1 → Stands core → RunsOn core.given core.pairs.items
-runs_on core counted stands = runs_on_of core.given core.pairs.items counted stands.rates stands.accepted stands.ids stands.limits.least_slots
+pub runs_on : (core : Inside) → core.given.answers ≡ length (pairs_in core.pairs) + 1 → Stands core → RunsOn core.given (pairs_in core.pairs)
+runs_on core counted stands = runs_on_of core.given (pairs_in core.pairs) counted stands.rates stands.accepted stands.ids stands.limits.least_slots
 
 few_of : (options : Options) (past : Past) → IsWithinLimits options → past.folders ≤ most_stagings options → past.folders + 2 < 2 ^ 64
 few_of options past limits few = omega (arith, few, limits.retries)
@@ -68,8 +69,8 @@ module _ (core : Inside) (answer : Answer) (stands : Stands core) (may : MayAnsw
   lost_asks turn (draining some) = tt
   lost_asks turn lost = tt
 
-  asks_by : IsGoing s core.pairs.items core.course core.turn → AsksIn core.course core.turn
-  asks_by (on r) = asks_in s core.pairs.items core.course core.turn r
+  asks_by : IsGoing s (pairs_in core.pairs) core.course core.turn → AsksIn core.course core.turn
+  asks_by (on r) = asks_in s (pairs_in core.pairs) core.course core.turn r
   asks_by (off out) = lost_asks core.turn out.at
 
   pub asks : AsksIn core.course core.turn
@@ -79,14 +80,14 @@ module _ (core : Inside) (answer : Answer) (stands : Stands core) (may : MayAnsw
   lost_ready turn (draining some) its = tt
   lost_ready turn lost its = elim its [ ]
 
-  ready_by : IsGoing s core.pairs.items core.course core.turn → IsReadyFor core.course core.turn.phase
+  ready_by : IsGoing s (pairs_in core.pairs) core.course core.turn → IsReadyFor core.course core.turn.phase
   ready_by (on r) =
-      let lists : AreFitting core.course = readies s core.pairs.items core.course core.turn r (asks_some may) in
+      let lists : AreFitting core.course = readies s (pairs_in core.pairs) core.course core.turn r (asks_some may) in
       ready_for core.course core.turn.phase (record {
         as_many = lists.as_many;
         flights = lists.flights;
         staged = lists.staged;
-        folders = few_folders core.given.options (past_of core.course) core.turn.phase stands.limits (never_drains s core.pairs.items core.course core.turn r)
+        folders = few_folders core.given.options (past_of core.course) core.turn.phase stands.limits (never_drains s (pairs_in core.pairs) core.course core.turn r)
             (not_ended core.course core.turn.phase may asks) stands.bounded;
       })
   ready_by (off out) = lost_ready core.turn out.at may
@@ -98,9 +99,9 @@ module _ (core : Inside) (answer : Answer) (stands : Stands core) (may : MayAnsw
   lost_ahead turn (draining some) its = some_there core.course.tickets.items some
   lost_ahead turn lost its = elim its [ ]
 
-  ahead_by : IsGoing s core.pairs.items core.course core.turn → 0 < pairs_ahead (past_of core.course) core.turn.phase
+  ahead_by : IsGoing s (pairs_in core.pairs) core.course core.turn → 0 < pairs_ahead (past_of core.course) core.turn.phase
   ahead_by (on r) =
-      subst (λ n. 0 < n) (sym (ahead_now (past_of core.course) core.turn.phase (never_drains s core.pairs.items core.course core.turn r)
+      subst (λ n. 0 < n) (sym (ahead_now (past_of core.course) core.turn.phase (never_drains s (pairs_in core.pairs) core.course core.turn r)
       (not_ended core.course core.turn.phase may asks))) (omega arith)
   ahead_by (off out) = lost_ahead core.turn out.at may
 

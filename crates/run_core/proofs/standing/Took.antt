@@ -1,6 +1,6 @@
 -- What the machine's callers learn of an answer taken.
 use Rattle.std.specs.Prelude.{◌≢◌}
-use Rattle.std.proofs.Common.{◌≡◌, ◌∙◌, ◌⊎◌, inl, inr, ℕ, ◌+◌, ◌<◌, ◌≤◌, List, [], ◌∷◌, ◌++◌, Vec, Global, length, vec_len, vec_capacity, Result, refl, sym, ap, subst, arith}
+use Rattle.std.proofs.Common.{◌≡◌, ◌∙◌, inl, inr, ℕ, ◌+◌, ◌<◌, ◌≤◌, List, [], ◌∷◌, ◌++◌, length, Result, refl, sym, ap, subst, arith}
 use Rattle.std.proofs.lemmas.List.Elements.{Contains-push_cases, filter_map-append}
 use Rattle.proc_host.specs.declared.call.HostRequest.{HostRequest}
 use Rattle.run_rules.specs.Answers.{AreAnswers, MayAnswer, flying_after}
@@ -21,6 +21,9 @@ use Rattle.run_core.specs.inner.Inside.{Goes, Stands, mode_of, off_run, on_run, 
 use Rattle.run_core.specs.inner.Anyway.{CanGoOn, job_in}
 use Rattle.run_core.specs.inner.Course.{Past, past_of}
 use Rattle.run_core.specs.inner.Follows.{HasPairs, MakesRoom, Moves, has_room, no_room, told_of}
+use Rattle.run_core.specs.declared.transcript.Transcript.{Transcript}
+use Rattle.run_core.specs.inner.Answered.{most_answers}
+use Rattle.run_core.specs.inner.Asked.{pairs_in}
 use Rattle.run_core.specs.inner.Standing.{Blames, HasRoom, RanOut, Runs, pairs_ahead}
 use Rattle.run_core.specs.inner.Turn.{lost_after, waits}
 use Rattle.run_core.proofs.standing.Lost.{lost_room}
@@ -56,14 +59,14 @@ stands_counted core answers stands = record {
   pairs_room = stands.pairs_room;
 }
 
-abbrev pub core_with : Inside → Vec Pair Global → Course → Turn → Inside
+abbrev pub core_with : Inside → Transcript → Course → Turn → Inside
 core_with core pairs course turn = record { alloc = core.alloc; given = core.given; pairs = pairs; course = course; turn = turn }
 
-pub going_of : (core : Inside) → Goes core → IsGoing (scene_of (setting_in core.given)) core.pairs.items core.course core.turn
+pub going_of : (core : Inside) → Goes core → IsGoing (scene_of (setting_in core.given)) (pairs_in core.pairs) core.course core.turn
 going_of core (on_run r) = on r
 going_of core (off_run out) = off out
 
-goes_so : (core : Inside) (t : List Pair) → core.pairs.items ≡ t → IsGoing (scene_of (setting_in core.given)) t core.course core.turn → Goes core
+goes_so : (core : Inside) (t : List Pair) → (pairs_in core.pairs) ≡ t → IsGoing (scene_of (setting_in core.given)) t core.course core.turn → Goes core
 goes_so core t same (on r) = on_run (subst (λ (all : List Pair). Runs (scene_of (setting_in core.given)) all core.course core.turn) (sym same) r)
 goes_so core t same (off out) = off_run (subst (λ (all : List Pair). RanOut (scene_of (setting_in core.given)) all (past_of core.course) core.turn) (sym same) out)
 
@@ -82,29 +85,29 @@ one_more_answered flying t request answer before may pair there = elim (Contains
   | inr same ↦ subst (λ (p : Pair). (running : List ℕ) × MayAnswer running p.request p.answer) same (flying, may)
 ]
 
-module _ (core : Inside) (answer : Answer) (pairs : Vec Pair Global) (course : Course) (turn : Turn) (stands : Stands core)
-    (may : MayAnswer core.course.tickets.items core.turn.asks answer) (longer : pairs.items ≡ core.pairs.items ++ noted core.turn.asks answer ∷ []) (room : HasRoom course turn.phase)
-    (fits : vec_len pairs + pairs_ahead (past_of course) turn.phase ≤ vec_capacity pairs)
-    (it : Taken core.given core.pairs.items core.course core.turn answer turn course)
-    (began : WereStarted (entries_of (core.pairs.items ++ noted core.turn.asks answer ∷ [])) (flying_after core.course.tickets.items answer)) where
+module _ (core : Inside) (answer : Answer) (pairs : Transcript) (course : Course) (turn : Turn) (stands : Stands core)
+    (may : MayAnswer core.course.tickets.items core.turn.asks answer) (longer : (pairs_in pairs) ≡ (pairs_in core.pairs) ++ noted core.turn.asks answer ∷ []) (room : HasRoom course turn.phase)
+    (fits : pairs.count + pairs_ahead (past_of course) turn.phase ≤ most_answers)
+    (it : Taken core.given (pairs_in core.pairs) core.course core.turn answer turn course)
+    (began : WereStarted (entries_of ((pairs_in core.pairs) ++ noted core.turn.asks answer ∷ [])) (flying_after core.course.tickets.items answer)) where
   stands_then : Stands (core_with core pairs course turn)
   stands_then = record {
     limits = stands.limits;
     rates = stands.rates;
     accepted = stands.accepted;
     ids = stands.ids;
-    going = goes_so (core_with core pairs course turn) (core.pairs.items ++ noted core.turn.asks answer ∷ []) longer it.going;
-    answered = subst AreAnswers (sym longer) (one_more_answered core.course.tickets.items core.pairs.items core.turn.asks answer stands.answered may);
+    going = goes_so (core_with core pairs course turn) ((pairs_in core.pairs) ++ noted core.turn.asks answer ∷ []) longer it.going;
+    answered = subst AreAnswers (sym longer) (one_more_answered core.course.tickets.items (pairs_in core.pairs) core.turn.asks answer stands.answered may);
     bounded = it.bounded;
     blames = subst (λ (t : List Pair). Blames (entries_of t) (past_of course) turn.phase) (sym longer) it.blames;
-    started = λ asks. subst (λ (ns : List ℕ). WereStarted (entries_of pairs.items) ns) (sym (it.flying asks))
+    started = λ asks. subst (λ (ns : List ℕ). WereStarted (entries_of (pairs_in pairs)) ns) (sym (it.flying asks))
         (subst (λ (t : List Pair). WereStarted (entries_of t) (flying_after core.course.tickets.items answer)) (sym longer) began);
     room = room;
     pairs_room = fits;
   }
 
-  more_entries : entries_of pairs.items ≡ entries_of core.pairs.items ++ entries_of (noted core.turn.asks answer ∷ [])
-  more_entries = ap entries_of longer ∙ filter_map-append entry_of core.pairs.items (noted core.turn.asks answer ∷ [])
+  more_entries : entries_of (pairs_in pairs) ≡ entries_of (pairs_in core.pairs) ++ entries_of (noted core.turn.asks answer ∷ [])
+  more_entries = ap entries_of longer ∙ filter_map-append entry_of (pairs_in core.pairs) (noted core.turn.asks answer ∷ [])
 
   abbrev new : Machine
   new = seen (core_with core pairs course turn)
@@ -147,27 +150,27 @@ module _ (core : Inside) (answer : Answer) (pairs : Vec Pair Global) (course : C
   took_told : (result : Result (Unit {0}) RunFault) → result ≡ told_of turn.phase → Stands (core_with core pairs course turn) × Took (seen core) answer result new
   took_told result is = (stands_then, subst (λ (r : Result (Unit {0}) RunFault). Took (seen core) answer r new) (sym is) (took_by (tells turn.phase)))
 
-module _ (core : Inside) (answer : Answer) (runs_on : RunsOn core.given core.pairs.items) (stands : Stands core) (may : MayAnswer core.course.tickets.items core.turn.asks answer) where
-  pub took : (pairs : Vec Pair Global) (new course : Course) (next turn : Turn) (result : Result (Unit {0}) RunFault) → CanGoOn core.course (job_in core.turn.phase) answer →
-      pairs.items ≡ core.pairs.items ++ noted core.turn.asks answer ∷ [] → Moves core.given core.course core.turn answer next new →
-      MakesRoom (vec_len pairs) (vec_capacity pairs) (past_of new) next turn → past_of course ≡ past_of new → course.known ≡ new.known → HasRoom course turn.phase →
+module _ (core : Inside) (answer : Answer) (runs_on : RunsOn core.given (pairs_in core.pairs)) (stands : Stands core) (may : MayAnswer core.course.tickets.items core.turn.asks answer) where
+  pub took : (pairs : Transcript) (new course : Course) (next turn : Turn) (result : Result (Unit {0}) RunFault) → CanGoOn core.course (job_in core.turn.phase) answer →
+      (pairs_in pairs) ≡ (pairs_in core.pairs) ++ noted core.turn.asks answer ∷ [] → Moves core.given core.course core.turn answer next new →
+      MakesRoom pairs.count most_answers (past_of new) next turn → past_of course ≡ past_of new → course.known ≡ new.known → HasRoom course turn.phase →
       result ≡ told_of turn.phase → Stands (core_with core pairs course turn) × Took (seen core) answer result (seen (core_with core pairs course turn))
   took pairs new course next turn result can longer moved made same known room is =
-      took_told core answer pairs course turn stands may longer room (pairs_fit (vec_len pairs) (vec_capacity pairs) (past_of new) (past_of course) next turn same made)
-      (taken_same core.given core.pairs.items core.course core.turn answer turn new course same known
-      (taken core.given core.pairs.items runs_on core.course core.turn answer next turn new (vec_len pairs) (vec_capacity pairs) (going_of core stands.going) may can
-      stands.bounded stands.blames (stands.started (asks_some may)) moved made)) (started_after core.pairs.items may (stands.started (asks_some may))) result is
+      took_told core answer pairs course turn stands may longer room (pairs_fit pairs.count most_answers (past_of new) (past_of course) next turn same made)
+      (taken_same core.given (pairs_in core.pairs) core.course core.turn answer turn new course same known
+      (taken core.given (pairs_in core.pairs) runs_on core.course core.turn answer next turn new pairs.count most_answers (going_of core stands.going) may can
+      stands.bounded stands.blames (stands.started (asks_some may)) moved made)) (started_after (pairs_in core.pairs) may (stands.started (asks_some may))) result is
 
   -- the end of each child in flight has room once the pair is noted
-  pub keeps_pairs : (new : Course) (next : Turn) (pairs room : ℕ) → Moves core.given core.course core.turn answer next new → pairs ≡ vec_len core.pairs + 1 →
-      vec_capacity core.pairs ≤ room → HasPairs pairs room (past_of new) next
-  keeps_pairs new next pairs room moved one wider =
+  pub keeps_pairs : (new : Course) (next : Turn) (pairs : ℕ) → Moves core.given core.course core.turn answer next new → pairs ≡ core.pairs.count + 1 →
+      HasPairs pairs most_answers (past_of new) next
+  keeps_pairs new next pairs moved one =
       let left : length new.tickets.items + 1 ≤ pairs_ahead (past_of core.course) core.turn.phase =
-      leaves_room core.given core.pairs.items runs_on core.course core.turn answer next new (going_of core stands.going) may moved in
-      still_fit pairs room (vec_len core.pairs) (vec_capacity core.pairs) (length new.tickets.items) (pairs_ahead (past_of core.course) core.turn.phase) left one wider stands.pairs_room
+      leaves_room core.given (pairs_in core.pairs) runs_on core.course core.turn answer next new (going_of core stands.going) may moved in
+      still_fit pairs most_answers core.pairs.count (length new.tickets.items) (pairs_ahead (past_of core.course) core.turn.phase) left one stands.pairs_room
     where
-      still_fit : (pairs room n m a b : ℕ) → a + 1 ≤ b → pairs ≡ n + 1 → m ≤ room → n + b ≤ m → pairs + a ≤ room
-      still_fit pairs room n m a b left one wider fits = omega (arith, left, one, wider, fits)
+      still_fit : (pairs room n a b : ℕ) → a + 1 ≤ b → pairs ≡ n + 1 → n + b ≤ room → pairs + a ≤ room
+      still_fit pairs room n a b left one fits = omega (arith, left, one, fits)
 
 pub one_fits : (pairs room ahead : ℕ) → 0 < ahead → pairs + ahead ≤ room → pairs < room
 one_fits pairs room ahead some fits = omega (arith, some, fits)

@@ -1,5 +1,5 @@
 -- What a machine's fields are to its callers, and what they keep.
-use Rattle.std.specs.Prelude.{◌≡◌, ◌≢◌, ◌≤◌, ◌+◌, None, true, vec_len, vec_capacity}
+use Rattle.std.specs.Prelude.{◌≡◌, ◌≢◌, ◌≤◌, ◌+◌, None, true}
 use Rattle.job_graph.specs.Apart.{ids_differ}
 use Rattle.run_rules.specs.declared.request.Request.{Request}
 use Rattle.run_rules.specs.declared.setting.Options.{Options}
@@ -15,6 +15,8 @@ use Rattle.run_core.specs.declared.state.Given.{Given}
 use Rattle.run_core.specs.declared.state.Phase.{Phase}
 use Rattle.run_rules.specs.Limits.{IsWithinLimits}
 use Rattle.run_core.specs.Machine.{Machine, Mode, is_draining, is_going, is_over}
+use Rattle.run_core.specs.inner.Answered.{most_answers}
+use Rattle.run_core.specs.inner.Asked.{pairs_in}
 use Rattle.run_core.specs.inner.Attempts.{StaysBounded, answers_left}
 use Rattle.run_core.specs.inner.Course.{past_of}
 use Rattle.run_core.specs.inner.Planning.{shown}
@@ -35,7 +37,7 @@ mode_of phase = is_going
 abbrev pub seen : Inside → Machine
 seen core = record {
   setting = setting_in core.given;
-  transcript = core.pairs.items;
+  transcript = (pairs_in core.pairs);
   asks = core.turn.asks;
   flying = core.course.tickets.items;
   plan = shown core.course.planned;
@@ -46,8 +48,8 @@ seen core = record {
 -- its transcript is a run so far, and it asks what that run may ask, or has ended as that run does; or memory ran out, and the transcript is
 -- a run so far with waits after it
 pub data Goes (core : Inside) : Type 0 where
-  on_run : Runs (scene_of (setting_in core.given)) core.pairs.items core.course core.turn → Goes core
-  off_run : RanOut (scene_of (setting_in core.given)) core.pairs.items (past_of core.course) core.turn → Goes core
+  on_run : Runs (scene_of (setting_in core.given)) (pairs_in core.pairs) core.course core.turn → Goes core
+  off_run : RanOut (scene_of (setting_in core.given)) (pairs_in core.pairs) (past_of core.course) core.turn → Goes core
 
 -- its process is an accepted one, each answer was one that its call can give, what it blames on the host is so, and while it asks the children in flight were started, and there is room for
 -- the answer
@@ -57,9 +59,9 @@ pub record Stands (core : Inside) : Type 0 where
   pub accepted : fault_in core.given.process.now ≡ None
   pub ids : ids_differ core.given.process.now ≡ true
   pub going : Goes core
-  pub answered : AreAnswers core.pairs.items
+  pub answered : AreAnswers (pairs_in core.pairs)
   pub bounded : StaysBounded core.given.options (past_of core.course) core.turn.phase
-  pub blames : Blames (entries_of core.pairs.items) (past_of core.course) core.turn.phase
-  pub started : core.turn.asks ≢ Request.Finished → WereStarted (entries_of core.pairs.items) core.course.tickets.items
+  pub blames : Blames (entries_of (pairs_in core.pairs)) (past_of core.course) core.turn.phase
+  pub started : core.turn.asks ≢ Request.Finished → WereStarted (entries_of (pairs_in core.pairs)) core.course.tickets.items
   pub room : HasRoom core.course core.turn.phase
-  pub pairs_room : vec_len core.pairs + pairs_ahead (past_of core.course) core.turn.phase ≤ vec_capacity core.pairs
+  pub pairs_room : core.pairs.count + pairs_ahead (past_of core.course) core.turn.phase ≤ most_answers

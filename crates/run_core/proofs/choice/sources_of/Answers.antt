@@ -1,5 +1,4 @@
 use Rattle.std.proofs.Common.{◌∙◌, List, ap}
-use Rattle.job_graph.specs.Jobs.{Job}
 use Rattle.job_graph.specs.Made.{fields_moved}
 use Rattle.run_rules.specs.Delivered.{source_place}
 use Rattle.run_rules.specs.Folders.{left_folder}
@@ -11,6 +10,5 @@ use Rattle.run_core.proofs.choice.sources_of.Goals as goal
 pub returns : goal.returns
 returns c =
     if_ok c.moved_fields.result (λ files is.
-    is ∙ ap (λ (jobs : List Job). fields_moved (source_place (λ place. left_folder c.args.options.now.work (fetched_in jobs c.as_slice.result.now place) (number_in jobs c.as_slice.result.now place))) c.args.values.now) c.known_in.ensures.jobs
-    ∙ ap (λ (states : List JobState). fields_moved (source_place (λ place. left_folder c.args.options.now.work (fetched_in (known_in c.args.course.now.known) states place) (number_in (known_in c.args.course.now.known) states place))) c.args.values.now) c.as_slice.ensures)
+    is ∙ ap (λ (states : List JobState). fields_moved (source_place (λ place. left_folder c.args.options.now.work (fetched_in (known_in c.args.course.now.known) states place) (number_in (known_in c.args.course.now.known) states place))) c.args.values.now) c.as_slice.ensures)
     c.moved_fields.ensures

@@ -1,5 +1,5 @@
 use Rattle.std.specs.Prelude.{◌↔◌, IsTrue, MatchOption, OnOk}
-use Rattle.std.proofs.Common.{◌≡◌, ◌≢◌, ◌∙◌, Bool, List, length, Option, None, Some, Result, Ok, Err, IfOk, IfErr, ap, refl, sym, subst}
+use Rattle.std.proofs.Common.{◌≡◌, ◌≢◌, ◌∙◌, List, length, Option, None, Some, Result, Ok, Err, IfOk, IfErr, ap, refl, sym, subst}
 use Rattle.job_graph.specs.PresentJobGraph.{present_job_graph}
 use Rattle.job_graph.specs.Unfolding.{Blames, fault_of}
 use Rattle.job_graph.specs.declared.costs.Costs.{Costs}

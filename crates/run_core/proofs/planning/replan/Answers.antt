@@ -1,6 +1,5 @@
 use Rattle.std.specs.Prelude.{MatchBool, MatchOption}
 use Rattle.std.proofs.Common.{◌∙◌, Bool, Option, Some, [], ap, refl, subst, sym}
-use Rattle.plan_keeper.specs.declared.planned.Planned.{Planned}
 use Rattle.run_plan.specs.declared.kept.NextPlan.{NextPlan}
 use Rattle.run_core.specs.declared.counts.PlanCounts.{PlanCounts}
 use Rattle.run_core.specs.inner.Course.{Past, with_plan}

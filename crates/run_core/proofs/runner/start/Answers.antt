@@ -7,6 +7,6 @@ use Rattle.run_core.proofs.runner.start.Goals as goal
 
 pub returns-clause-begins : goal.returns-clause-begins
 returns-clause-begins c =
-    on_ok c.reserve.result
-    (subst (λ (turn : Turn). Begins c.args.given.now c.args.course.now turn c.reserve.new.course) (sym c.replace.ensures.after)
-    (begins_same c.args.given.now c.args.course.now c.begun.new.course c.reserve.new.course c.reserve.ensures.past c.reserve.ensures.known c.in_ok-first.first c.in_ok-first.ensures))
+    on_ok c.reserve_one.result
+    (subst (λ (turn : Turn). Begins c.args.given.now c.args.course.now turn c.reserve_one.new.course) (sym c.replace.ensures.after)
+    (begins_same c.args.given.now c.args.course.now c.begun.new.course c.reserve_one.new.course c.reserve_one.ensures.past c.reserve_one.ensures.known c.in_ok-first.first c.in_ok-first.ensures))
