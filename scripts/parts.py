@@ -22,7 +22,10 @@ PARTS = [
     ("jobs by Slurm", ["test-slurm"]),
     ("a package", ["test-package", "--of"]),
     ("documents of laboratories", ["lab"]),
+    ("larger workflows", ["test-unfolding"]),
 ]
+# The parts that are tried with another program, by the crate that it is of.
+OTHERS = {"test-unfolding": "tests"}
 
 
 def passes(check):
@@ -31,11 +34,11 @@ def passes(check):
 
 
 def tried(name, words, program):
-    """Tries a part with the program, and prints what it says. Returns how many passed and failed of what it counts: none if it can't be tried here."""
+    """Tries a part with the program, if one is given, and prints what it says. Returns how many passed and failed of what it counts: none if it can't be tried here."""
     print(f"{os.path.basename(sys.argv[0])}: {name}", file=sys.stderr, flush=True)
     more = filter(None, [os.environ.get("LAB_SUITE")]) if words == ["lab"] else []
     room = {name: it for name, it in os.environ.items() if name != "DEPAROHI"}
-    ran = subprocess.run([f"{repository.TOP}/scripts/{words[0]}", *words[1:], program, *more], env=room, stdin=subprocess.DEVNULL, stdout=subprocess.PIPE, check=False)
+    ran = subprocess.run([f"{repository.TOP}/scripts/{words[0]}", *words[1:], *filter(None, [program]), *more], env=room, stdin=subprocess.DEVNULL, stdout=subprocess.PIPE, check=False)
     sys.stdout.buffer.write(ran.stdout)
     sys.stdout.flush()
     said = re.search(rb"(?:\A|\n)[\w-]+: (\d+) passed, (\d+) failed\n\Z", ran.stdout)

@@ -55,12 +55,17 @@ def fault_told(fault):
     return f'"{fault[0]}","{fault[1]}"'
 
 
+def word(place, inputs, parents):
+    """Returns what is told of a job that has become known."""
+    return place[len("main") :] + short(inputs) + "".join(f"<{it}" for it in parents)
+
+
 class Order:
     """The ends of jobs in one order, and what they make known."""
 
-    def __init__(self, document, inputs):
-        self.of = walk.Unfolding(walk.process_of(document), walk.value_of(inputs))
-        self.ends, self.needed, self.told = [], [], []
+    def __init__(self, document, inputs, unfolding=walk.Unfolding):
+        self.of = unfolding(walk.process_of(document), walk.value_of(inputs))
+        self.ends, self.needed, self.told, self.words = [], [], [], {}
         self.put(self.of.look(), "")
 
     def put(self, new, fault):
@@ -68,9 +73,8 @@ class Order:
         if new is None:
             self.told.append((fault and fault + ",") + fault_told(self.of.fault))
             return
-        words = []
-        for place, inputs in new.items():
-            words.append(place.removeprefix("main") + short(inputs) + "".join(f"<{it}" for it in self.of.parents[place]))
+        words = [word(place, inputs, self.of.parents[place]) for place, inputs in new.items()]
+        self.words.update(zip(new, words))
         now = self.of.needed()
         for number, (was, it) in enumerate(zip(self.needed + [True] * len(new), now)):
             if was != it:
@@ -96,13 +100,12 @@ class Order:
         return "[" + ",".join(f"[{it}]" for it in self.told) + "]"
 
 
-def ran(document, inputs, choose, end_of, again=lambda: False):
-    """Returns the order in which jobs end as they are chosen; after a fault one more end is tried, of a job that may have ended.
+def ran(order, choose, end_of, again=lambda: False, most=MOST):
+    """Lets jobs end as they are chosen, and returns the order; after a fault one more end is tried, of a job that may have ended.
 
     Where `again` says so, a job is learned once more with another output, which changes nothing.
     """
-    order = Order(document, inputs)
-    while order.open() and len(order.of.known) <= MOST:
+    while order.open() and len(order.of.known) <= most:
         if order.ends and again():
             order.learn([order.ends[0] if isinstance(order.ends[0], int) else order.ends[0][0], "other"])
         is_last = order.of.fault is not None
@@ -137,7 +140,7 @@ def levels(numbers, count):
         orders = []
         for number in range(start, min(start + ORDERS, count)):
             choose = chooser(numbers, kinds[number] if number < 2 else numbers.choice(["any", "any", "mixed"]))
-            orders.append(ran(document, inputs, choose, lambda it, _: it))
+            orders.append(ran(Order(document, inputs), choose, lambda it, _: it))
         yield row(f"three-levels-{start}", document, inputs, orders), orders
 
 
@@ -150,7 +153,7 @@ def workflows(numbers, count, room):
         if len(text) > room and numbers.random() < 0.97 or numbers.random() > 0.15 + 0.3 * sum(it in text for it in generate.WORDS):
             continue
         choose = chooser(numbers, numbers.choice(["first", "last", "mixed", "any", "any", "any"]))
-        order = ran(document, inputs, choose, lambda it, tool: generate.end_of(numbers, it, tool[1:]), lambda: numbers.random() < 0.01)
+        order = ran(Order(document, inputs), choose, lambda it, tool: generate.end_of(numbers, it, tool[1:]), lambda: numbers.random() < 0.01)
         if is_wanted(numbers, order):
             yield row(f"workflow-{number}", document, inputs, [order]), [order]
             number += 1

@@ -49,12 +49,16 @@ def value_of(written, maker=None):
 
 def makers(value):
     """Returns the places of the jobs that made a File or Directory of the value, at any depth."""
-    if isinstance(value, File):
-        own = set() if value.maker is None else {value.maker}
-        return own.union(*(makers(it) for it in value.inner or []))
-    if isinstance(value, (list, dict)):
-        return set().union(*(makers(it) for it in (value.values() if isinstance(value, dict) else value)))
-    return set()
+    found, ahead = set(), [value]
+    while ahead:
+        it = ahead.pop()
+        if isinstance(it, File):
+            if it.maker is not None:
+                found.add(it.maker)
+            ahead.extend(it.inner or [])
+        elif isinstance(it, (list, dict)):
+            ahead.extend(it.values() if isinstance(it, dict) else it)
+    return found
 
 
 def canonical(value):
@@ -278,8 +282,10 @@ class Walk:
                 pass
             except Fails as fault:
                 met.append((place, *fault.args))
-        if len(given) < len(step.entries):
-            return met, {}
+        return self.handed(step, place, given) if len(given) == len(step.entries) else (met, {})
+
+    def handed(self, step, place, given):
+        """Returns the same of a step that is handed these values."""
         if not step.scatter:
             return self.instance(step, place, given)
         try:
@@ -343,25 +349,30 @@ class Unfolding:
     def __init__(self, process, given):
         self.process, self.given = process, {name: given.get(name) for name, _ in process.inputs}
         self.known, self.tools, self.ended, self.fault = [], {}, {}, None
-        self.parents = {}
+        self.numbers, self.parents = {}, {}
         self.outs = {}
+
+    def walked(self):
+        """Returns what is met and the outputs that are known, now."""
+        return Walk(self.ended).process(self.process, "main", self.given)
 
     def look(self):
         """Returns the jobs that are known anew, each with its inputs, or None where there is a fault."""
-        met, outs = Walk(self.ended).process(self.process, "main", self.given)
-        new, parents = {}, {}
+        met, outs = self.walked()
+        new = {}
         for it in met:
             if len(it) == 2:
                 self.fault = it
                 return None
             place, tool, inputs = it
-            if place not in self.known and place not in new:
+            if place not in self.numbers and place not in new:
                 new[place] = inputs
                 self.tools[place] = tool
-                parents[place] = makers(inputs)
-        self.known.extend(new)
         for place in new:
-            self.parents[place] = sorted(self.known.index(it) for it in parents[place])
+            self.numbers[place] = len(self.known)
+            self.known.append(place)
+        for place, inputs in new.items():
+            self.parents[place] = sorted(self.numbers[it] for it in makers(inputs))
         self.outs = outs
         return new
 
