@@ -35,9 +35,6 @@ pub sum_within : {X : Type 0} (f g : X → ℕ) → ((x : X) → f x ≤ g x) �
 sum_within f g one [] = omega arith
 sum_within f g one (x ∷ xs) = omega (arith, one x, sum_within f g one xs, sum_by-cons f x xs, sum_by-cons g x xs)
 
-one_if : Bool → ℕ
-one_if b = cond b 1 0
-
 -- of the sources of inputs, and of each step
 both_by : (a b c : Source → Bool) → ((s : Source) → cond (a s) 1 0 ≡ cond (b s) 1 0 + cond (c s) 1 0) → (inputs : List (Name × StepInput)) → sources_by a inputs ≡ sources_by b inputs + sources_by c inputs
 both_by a b c one inputs =
