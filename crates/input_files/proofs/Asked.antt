@@ -1,7 +1,7 @@
 -- Contents are those of the inputs that ask for them.
 use Rattle.std.proofs.Common.{◌≡◌, ◌⊎◌, inl, inr, Bool, true, false, true≢false, ◌||◌, List, [], ◌∷◌, ◌++◌, map, Option, Some, None, is_some, Ok, IfOk, refl, sym, ap, subst, ◌∙◌}
 use Rattle.std.specs.Prelude.{fold, bytes_eq, unwrap_or, if◌then◌else◌}
-use Rattle.std.proofs.lemmas.Bool.{ltb-false}
+use Rattle.std.proofs.lemmas.Bool.{ltb-false, or_parts}
 use Rattle.std.specs.List.{All, Contains, flat_map, list_any}
 use Rattle.std.specs.Map.{values_of}
 use Rattle.std.specs.Option.{IfSome}
@@ -20,7 +20,6 @@ use Rattle.input_files.specs.Paths.{each_once}
 use Rattle.input_files.specs.declared.contents.TheConstants.{MOST_CONTENTS}
 use Rattle.input_files.specs.declared.fault.ContentsFault.{ContentsFault}
 use Rattle.input_files.specs.declared.fault.ContentsFault.TheVariants as fault
-use Rattle.input_files.proofs.Fileless.{no_left, no_right}
 use Rattle.input_files.proofs.Once.{names_kept}
 
 -- faults
@@ -101,8 +100,8 @@ No b = b ≡ false
 none_put : (entries sorted : Asked) → All No (values_of sorted) → list_any (λ (e : Name × Bool). e.1) entries ≡ false → All No (values_of (fold (λ (s : Asked) (e : Name × Bool). with_value e.0 e.1 s) sorted entries))
 none_put [] sorted before none = before
 none_put (e ∷ es) sorted before none =
-    none_put es (with_value e.0 e.1 sorted) (All-values-insert_entry name_cmp e.0 e.1 No sorted before (no_left e.1 (list_any (λ (e : Name × Bool). e.1) es) none))
-    (no_right e.1 (list_any (λ (e : Name × Bool). e.1) es) none)
+    none_put es (with_value e.0 e.1 sorted) (All-values-insert_entry name_cmp e.0 e.1 No sorted before (or_parts e.1 (list_any (λ (e : Name × Bool). e.1) es) none).0)
+    (or_parts e.1 (list_any (λ (e : Name × Bool). e.1) es) none).1
 
 same_loads : (inputs : List NamedInput) → list_any (λ (e : Name × Bool). e.1) (map (λ (i : NamedInput). (i.0, i.1.load_contents)) inputs) ≡ list_any (λ (i : NamedInput). i.1.load_contents) inputs
 same_loads [] = refl

@@ -1,5 +1,6 @@
 -- Values without Files and Directories.
-use Rattle.std.proofs.Common.{◌≡◌, ℕ, Bool, true, false, true≢false, ◌||◌, List, [], ◌∷◌, ◌++◌, map, refl, sym, ap, ◌∙◌, rules}
+use Rattle.std.proofs.Common.{◌≡◌, ℕ, Bool, true, false, true≢false, List, [], ◌∷◌, ◌++◌, map, refl, sym, ap, ◌∙◌, rules}
+use Rattle.std.proofs.lemmas.Bool.{or_parts}
 use Rattle.std.specs.List.{AllByRecursion}
 use Rattle.plain_data.specs.ByName.{map_values}
 use Rattle.cwl_value.specs.Fileless.{holds_files, some_true}
@@ -8,7 +9,7 @@ use Rattle.cwl_value.proofs.WithoutFiles.{held_dir, held_fields, held_file, held
 use Rattle.cwl_value.specs.declared.value.Value.{Value, out-Value, the_lemmas}
 use Rattle.cwl_value.specs.declared.value.Value as value
 use Rattle.cwl_value.specs.declared.value.FileVal.{FileVal}
-use Rattle.cwl_value.specs.declared.value.DirVal.{DirVal}
+use Rattle.staging.proofs.Fileless.{Descends, fileless_stays}
 use Rattle.input_files.specs.Given.{Fields, files_in, files_among, own_file, with_file, with_files}
 use Rattle.input_files.specs.Beside.{file_beside}
 use Rattle.input_files.specs.Laws.{UntouchedWithoutFiles}
@@ -16,18 +17,19 @@ use Rattle.input_files.specs.Measured.{Measures, is_there, as_measured}
 use Rattle.input_files.specs.Present.{all_true}
 use Rattle.input_files.specs.Paths.{Paths, joined, paths_of}
 
-pub no_left : (a b : Bool) → (a || b) ≡ false → a ≡ false
-no_left true b is = is
-no_left false b is = refl
-
-pub no_right : (a b : Bool) → (a || b) ≡ false → b ≡ false
-no_right true b is = absurd (true≢false is)
-no_right false b is = is
+measured_descends : (measures : Measures) → Descends (as_measured measures)
+measured_descends measures = record {
+  null = search (rules, the_lemmas);
+  boolean = λ b. search (rules, the_lemmas);
+  whole = λ n. search (rules, the_lemmas);
+  text = λ s. search (rules, the_lemmas);
+  list = λ vs. search (rules, the_lemmas);
+  fields = λ es. search (rules, the_lemmas);
+}
 
 module _ (measures : Measures) (h : FileVal → FileVal) where
   pub record Bare (v : Value) : Type 0 where
     pub there : is_there measures v ≡ true
-    pub stays : as_measured measures v ≡ v
     pub unmeasured : paths_of v ≡ []
     pub no_file : own_file (out-Value v) ≡ []
     pub as_is : with_file h v ≡ v
@@ -39,19 +41,17 @@ module _ (measures : Measures) (h : FileVal → FileVal) where
 
   record AreBare (vs : List Value) : Type 0 where
     pub there : all_true (map (is_there measures) vs) ≡ true
-    pub stay : map (as_measured measures) vs ≡ vs
     pub unmeasured : joined (map paths_of vs) ≡ []
     pub no_files : files_among vs ≡ []
     pub as_is : map (with_file h) vs ≡ vs
 
   all : (vs : List Value) → AllByRecursion P vs → some_true (map holds_files vs) ≡ false → AreBare vs
-  all [] each none = record { there = refl; stay = refl; unmeasured = refl; no_files = refl; as_is = refl }
+  all [] each none = record { there = refl; unmeasured = refl; no_files = refl; as_is = refl }
   all (v ∷ vs) each none =
-      let here = each.0 (no_left (holds_files v) (some_true (map holds_files vs)) none) in
-      let rest = all vs each.1 (no_right (holds_files v) (some_true (map holds_files vs)) none) in
+      let here = each.0 (or_parts (holds_files v) (some_true (map holds_files vs)) none).0 in
+      let rest = all vs each.1 (or_parts (holds_files v) (some_true (map holds_files vs)) none).1 in
       record {
         there = rw here.there rest.there;
-        stay = ap (λ (w : Value). w ∷ map (as_measured measures) vs) here.stays ∙ ap (λ (l : List Value). v ∷ l) rest.stay;
         unmeasured = ap (λ (l : Paths). l ++ joined (map paths_of vs)) here.unmeasured ∙ rest.unmeasured;
         no_files = ap (λ (l : List FileVal). l ++ files_among vs) here.no_file ∙ rest.no_files;
         as_is = ap (λ (w : Value). w ∷ map (with_file h) vs) here.as_is ∙ ap (λ (l : List Value). v ∷ l) rest.as_is;
@@ -59,9 +59,6 @@ module _ (measures : Measures) (h : FileVal → FileVal) where
 
   there_list : (vs : List Value) → is_there measures (value.List vs) ≡ all_true (map (is_there measures) vs)
   there_list vs = search (rules, the_lemmas)
-
-  measured_list : (vs : List Value) → as_measured measures (value.List vs) ≡ value.List (map (as_measured measures) vs)
-  measured_list vs = search (rules, the_lemmas)
 
   paths_list : (vs : List Value) → paths_of (value.List vs) ≡ joined (map paths_of vs)
   paths_list vs = search (rules, the_lemmas)
@@ -77,7 +74,6 @@ module _ (measures : Measures) (h : FileVal → FileVal) where
       let them = all vs each (sym (held_list vs) ∙ none) in
       record {
         there = there_list vs ∙ them.there;
-        stays = measured_list vs ∙ ap value.List them.stay;
         unmeasured = paths_list vs ∙ them.unmeasured;
         no_file = search (rules, the_lemmas);
         as_is = search (rules, the_lemmas);
@@ -87,26 +83,21 @@ module _ (measures : Measures) (h : FileVal → FileVal) where
 
   record AreBareFields (es : Fields) : Type 0 where
     pub there : all_true (map (λ e. e.1) (map_values (is_there measures) es)) ≡ true
-    pub stay : map_values (as_measured measures) es ≡ es
     pub unmeasured : joined (map (λ e. e.1) (map_values paths_of es)) ≡ []
 
   all_fields : (es : Fields) → AllByRecursion (λ (e : List ℕ × Value). P e.1) es → some_true (map (λ e. e.1) (map_values holds_files es)) ≡ false → AreBareFields es
-  all_fields [] each none = record { there = refl; stay = refl; unmeasured = refl }
+  all_fields [] each none = record { there = refl; unmeasured = refl }
   all_fields (e ∷ es) each none =
       let others : Bool = some_true (map (λ (e : List ℕ × Bool). e.1) (map_values holds_files es)) in
-      let here = each.0 (no_left (holds_files e.1) others none) in
-      let rest = all_fields es each.1 (no_right (holds_files e.1) others none) in
+      let here = each.0 (or_parts (holds_files e.1) others none).0 in
+      let rest = all_fields es each.1 (or_parts (holds_files e.1) others none).1 in
       record {
         there = rw here.there rest.there;
-        stay = ap (λ (w : Value). (e.0, w) ∷ map_values (as_measured measures) es) here.stays ∙ ap (λ (l : Fields). e ∷ l) rest.stay;
         unmeasured = ap (λ (l : Paths). l ++ joined (map (λ (e : List ℕ × Paths). e.1) (map_values paths_of es))) here.unmeasured ∙ rest.unmeasured;
       }
 
   there_fields : (es : Fields) → is_there measures (value.Fields es) ≡ all_true (map (λ e. e.1) (map_values (is_there measures) es))
   there_fields es = search (rules, the_lemmas)
-
-  measured_fields : (es : Fields) → as_measured measures (value.Fields es) ≡ value.Fields (map_values (as_measured measures) es)
-  measured_fields es = search (rules, the_lemmas)
 
   paths_fields : (es : Fields) → paths_of (value.Fields es) ≡ joined (map (λ e. e.1) (map_values paths_of es))
   paths_fields es = search (rules, the_lemmas)
@@ -116,7 +107,6 @@ module _ (measures : Measures) (h : FileVal → FileVal) where
       let them = all_fields es each (sym (held_fields es) ∙ none) in
       record {
         there = there_fields es ∙ them.there;
-        stays = measured_fields es ∙ ap value.Fields them.stay;
         unmeasured = paths_fields es ∙ them.unmeasured;
         no_file = search (rules, the_lemmas);
         as_is = search (rules, the_lemmas);
@@ -126,10 +116,10 @@ module _ (measures : Measures) (h : FileVal → FileVal) where
 
   cases : Cases P (λ f. Unit {0}) (λ d. Unit {0})
   cases = record {
-    null = λ _. record { there = search (rules, the_lemmas); stays = search (rules, the_lemmas); unmeasured = search (rules, the_lemmas); no_file = search (rules, the_lemmas); as_is = search (rules, the_lemmas); no_files = search (rules, the_lemmas); all_as_is = search (rules, the_lemmas) };
-    boolean = λ b _. record { there = search (rules, the_lemmas); stays = search (rules, the_lemmas); unmeasured = search (rules, the_lemmas); no_file = search (rules, the_lemmas); as_is = search (rules, the_lemmas); no_files = search (rules, the_lemmas); all_as_is = search (rules, the_lemmas) };
-    whole = λ n _. record { there = search (rules, the_lemmas); stays = search (rules, the_lemmas); unmeasured = search (rules, the_lemmas); no_file = search (rules, the_lemmas); as_is = search (rules, the_lemmas); no_files = search (rules, the_lemmas); all_as_is = search (rules, the_lemmas) };
-    text = λ s _. record { there = search (rules, the_lemmas); stays = search (rules, the_lemmas); unmeasured = search (rules, the_lemmas); no_file = search (rules, the_lemmas); as_is = search (rules, the_lemmas); no_files = search (rules, the_lemmas); all_as_is = search (rules, the_lemmas) };
+    null = λ _. record { there = search (rules, the_lemmas); unmeasured = search (rules, the_lemmas); no_file = search (rules, the_lemmas); as_is = search (rules, the_lemmas); no_files = search (rules, the_lemmas); all_as_is = search (rules, the_lemmas) };
+    boolean = λ b _. record { there = search (rules, the_lemmas); unmeasured = search (rules, the_lemmas); no_file = search (rules, the_lemmas); as_is = search (rules, the_lemmas); no_files = search (rules, the_lemmas); all_as_is = search (rules, the_lemmas) };
+    whole = λ n _. record { there = search (rules, the_lemmas); unmeasured = search (rules, the_lemmas); no_file = search (rules, the_lemmas); as_is = search (rules, the_lemmas); no_files = search (rules, the_lemmas); all_as_is = search (rules, the_lemmas) };
+    text = λ s _. record { there = search (rules, the_lemmas); unmeasured = search (rules, the_lemmas); no_file = search (rules, the_lemmas); as_is = search (rules, the_lemmas); no_files = search (rules, the_lemmas); all_as_is = search (rules, the_lemmas) };
     file = λ f _ none. absurd (true≢false (sym (held_file f) ∙ none));
     dir = λ d _ none. absurd (true≢false (sym (held_dir d) ∙ none));
     list = list_case;
@@ -144,4 +134,4 @@ module _ (measures : Measures) (h : FileVal → FileVal) where
 pub untouched : UntouchedWithoutFiles
 untouched measures declared v none =
     let is = bare measures (file_beside measures declared) v none in
-    record { there = is.there; has_all = rw is.no_files refl; stays = rw is.stays is.all_as_is; unmeasured = is.unmeasured }
+    record { there = is.there; has_all = rw is.no_files refl; stays = rw (fileless_stays (as_measured measures) (measured_descends measures) v none) is.all_as_is; unmeasured = is.unmeasured }

@@ -6,7 +6,7 @@ use Rattle.plain_data.specs.ByName.{value_at}
 use Rattle.cwl_value.specs.declared.place.Place.{Place}
 use Rattle.cwl_value.specs.declared.place.Place.TheVariants as place
 use Rattle.cwl_value.specs.declared.value.Value.{Value, roll-Value, fold-Value}
-use Rattle.cwl_value.specs.declared.value.Value.TheOpen.{Value-F, FileVal-F, DirVal-F}
+use Rattle.cwl_value.specs.declared.value.Value.TheOpen.{FileVal-F, DirVal-F}
 use Rattle.cwl_value.specs.declared.value.FileVal.{FileVal, roll-FileVal, fold-FileVal}
 use Rattle.cwl_value.specs.declared.value.DirVal.{DirVal, roll-DirVal, fold-DirVal}
 use Rattle.staging.specs.declared.measure.Measure.{Measure}

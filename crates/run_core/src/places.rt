@@ -6,7 +6,7 @@ ghost use Rattle.run_core.specs.inner.Places.{file_elsewhere, dir_elsewhere, fil
 
 use crate::folders::{Left, left_folder, path_in};
 use crate::job_states::JobState;
-use cwl_value::{DirVal, FileVal, JobPlace, Place, Value};
+use cwl_value::{DirVal, FileVal, JobPlace, Place, Value, holds_files};
 use file_values::path_to_location;
 use job_graph::Unfolding;
 use plain_data::{Items, Keyed, Text};
@@ -37,6 +37,7 @@ pub(crate) fn moved(alloc: Global, way: Way<'_, '_>, value: &Value) -> Result<Va
     match value {
         Value::FileVal(file) => Ok(Value::FileVal(moved_file(alloc, way, file)?)),
         Value::DirVal(dir) => Ok(Value::DirVal(moved_dir(alloc, way, dir)?)),
+        Value::List(_) if !holds_files(value) => value.clone_in(alloc),
         Value::List(items) => Ok(Value::of_items(moved_items(alloc, way, items.as_items())?)),
         Value::Fields(fields) => Ok(Value::Fields(moved_fields(alloc, way, fields)?)),
         _ => value.clone_in(alloc),

@@ -1,6 +1,7 @@
 pub mod Copies
 pub mod Decided
 pub mod Erasing
+pub mod Fileless
 pub mod Greedy
 pub mod Indexing
 pub mod Moved

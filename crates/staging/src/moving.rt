@@ -10,7 +10,7 @@ use crate::group::Member;
 use crate::groups::{dir_group, file_group, name_of};
 use crate::index::FolderIndex;
 use crate::targets::{Folders, folder_path, path_in};
-use cwl_value::{DirVal, FileVal, Place, Value};
+use cwl_value::{DirVal, FileVal, Place, Value, holds_files};
 use plain_data::{Items, Keyed, Text};
 use std::alloc::{AllocError, Global};
 
@@ -23,7 +23,8 @@ pub(crate) enum Way<'a> {
     Inside(&'a str),
 }
 
-/// The values in the folders of their groups. A copy of them shares their lists.
+/// The values in the folders of their groups. A copy of them shares their lists. A list without files is the given value's own if that
+/// is shared.
 #[cycle(moving)]
 pub(crate) fn moved_fields(
     alloc: Global,
@@ -47,6 +48,7 @@ fn moved(alloc: Global, value: &Value, way: Way<'_>) -> Result<Value, AllocError
     match value {
         Value::FileVal(file) => Ok(Value::FileVal(moved_file(alloc, file, way)?)),
         Value::DirVal(dir) => Ok(Value::DirVal(moved_dir(alloc, dir, way)?)),
+        Value::List(_) if !holds_files(value) => value.clone_in(alloc)?.shared(alloc),
         Value::List(items) => {
             Value::of_items(moved_items(alloc, items.as_items(), way)?).shared(alloc)
         }

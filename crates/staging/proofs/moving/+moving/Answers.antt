@@ -7,17 +7,24 @@ use Rattle.cwl_value.specs.declared.value.FileVal.{FileVal, out-FileVal}
 use Rattle.cwl_value.specs.declared.value.DirVal.{DirVal, out-DirVal, roll-DirVal}
 use Rattle.staging.specs.Groups.{FolderOf, copied, copied_file, items_moved}
 use Rattle.staging.specs.inner.Ways.{folder_by, group_at, file_as}
+use Rattle.staging.proofs.Fileless.{fileless_moved}
 use Rattle.staging.proofs.Moved.{list_moved, fields_moved_level, file_moved, dir_path, dir_moved}
 use Rattle.staging.proofs.moving.+moving.Goals as goal
 
-pub moved-returns-in_ok-moved_items-in-List : goal.moved-returns-in_ok-moved_items-in-List
-moved-returns-in_ok-moved_items-in-List t c =
+pub moved-returns-in_ok-moved_items-in-List-2 : goal.moved-returns-in_ok-moved_items-in-List-2
+moved-returns-in_ok-moved_items-in-List-2 t c =
     let is : c.of_items.result ≡ (copied c.args.value.now).moved (folder_by c.args.way) =
     c.of_items.ensures
-    ∙ ap value.List (c.in_ok-moved_items-in-List.ensures ∙ ap (items_moved (folder_by c.args.way)) c.as_items.ensures)
-    ∙ sym (list_moved (folder_by c.args.way) c.in-List.items) ∙ ap (λ (v : Value). (copied v).moved (folder_by c.args.way)) (sym c.in-List.is)
+    ∙ ap value.List (c.in_ok-moved_items-in-List-2.ensures ∙ ap (items_moved (folder_by c.args.way)) c.as_items.ensures)
+    ∙ sym (list_moved (folder_by c.args.way) c.in-List-2.items) ∙ ap (λ (v : Value). (copied v).moved (folder_by c.args.way)) (sym c.in-List-2.is)
     in
-    subst (λ (v : Value). IfOk c.shared.result (λ found. found ≡ v)) is c.shared.ensures
+    subst (λ (v : Value). IfOk c.shared-in-List-2.result (λ found. found ≡ v)) is c.shared-in-List-2.ensures
+
+pub moved-returns-in_ok-clone_in-in-List : goal.moved-returns-in_ok-clone_in-in-List
+moved-returns-in_ok-clone_in-in-List t c =
+    subst (λ (v : Value). IfOk c.shared.result (λ found. found ≡ v))
+    (c.in_ok-clone_in-in-List.ensures ∙ sym (fileless_moved (folder_by c.args.way) c.args.value.now (sym c.if-not-holds_files.ensures)))
+    c.shared.ensures
 
 pub moved-returns-in_ok-moved_fields-in-Fields : goal.moved-returns-in_ok-moved_fields-in-Fields
 moved-returns-in_ok-moved_fields-in-Fields t c =
