@@ -1,5 +1,5 @@
 //! What was asked and answered so far.
-ghost use Rattle.std.specs.Prelude.{◌≡◌, ◌≤◌, ◌<◌, ◌+◌, ◌++◌, ◌∷◌, [], length, map, OnOk};
+ghost use Rattle.std.specs.Prelude.{◌≡◌, ◌≤◌, ◌<◌, ◌+◌, ◌++◌, ◌∷◌, [], length, map, OnOk, OnErr};
 ghost use Rattle.run_core.specs.inner.Answered.{most_answers, pair_of};
 
 use crate::{Answer, Request};
@@ -42,9 +42,10 @@ impl Transcript {
         mem::drop(mem::replace(self, longer));
     }
 
-    /// Whether so many more can be counted.
+    /// Whether so many more can be counted; an error if not.
     pub(crate) fn room_for(&self, more: usize) -> Result<(), AllocError>
-        ensures { OnOk result (self.now.count + more ≤ most_answers) }
+        ensures room { OnOk result (self.now.count + more ≤ most_answers) }
+        ensures none { OnErr result (most_answers < self.now.count + more) }
     {
         match self.count.checked_add(more as u64) {
             Some(_) => Ok(()),
