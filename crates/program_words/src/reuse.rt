@@ -2,13 +2,9 @@
 ghost use Rattle.std.specs.Prelude.{◌≡◌, option_map};
 ghost use Rattle.program_words.specs.Reuse as spec;
 
-use plain_data::Text;
-
 /// What the record said of a job.
-#[derive(Drop)]
+#[derive(Clone, Copy, Drop)]
 pub struct Recalled {
-    /// The key under which it was looked for.
-    pub key: Text,
     pub has_row: bool,
     /// Whether its row says that its files are archived.
     pub is_archived: bool,

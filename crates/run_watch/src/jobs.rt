@@ -25,6 +25,14 @@ struct Running {
     since: u64,
 }
 
+/// What the record said of a job.
+#[derive(Drop)]
+struct InRecord {
+    recalled: Recalled,
+    // the key under which it was looked for, in a run that could load it: a key has all values of the inputs, and can be long
+    key: Option<Text>,
+}
+
 /// Keeps what becomes of each job, under its place as JSON text, and hands it to a listener. What there is no room for is left out.
 #[derive(Drop)]
 pub struct Jobs<'a, R: AllocGlobal + Clock, L: Listen + TakeNear> {
@@ -38,7 +46,7 @@ pub struct Jobs<'a, R: AllocGlobal + Clock, L: Listen + TakeNear> {
     // how many jobs were known at the last question
     known: usize,
     // what the record said
-    recalled: Keyed<Recalled>,
+    recalled: Keyed<InRecord>,
     // the keys whose archives are not what their rows have
     altered: Keyed<bool>,
     // the job whose files were fetched last, until the run goes on with them
@@ -91,9 +99,9 @@ impl<'a, R: AllocGlobal + Clock, L: Listen + TakeNear> Jobs<'a, R, L> {
     pub fn succeed(&mut self) {
         let settled = self.settle();
         self.note(settled);
-        for (place, recalled) in self.recalled.as_slice() {
+        for (place, found) in self.recalled.as_slice() {
             if !self.done.contains(place.as_str()) {
-                self.gained = self.gained.saturating_add(recalled.cost);
+                self.gained = self.gained.saturating_add(found.recalled.cost);
                 self.listener.omitted(place);
             }
         }
@@ -199,12 +207,19 @@ impl<'a, R: AllocGlobal + Clock, L: Listen + TakeNear> Jobs<'a, R, L> {
         if !self.memory.remembers {
             return None;
         }
-        let recalled = self.recalled.get(place.as_str());
-        let is_altered = match recalled {
+        let keeps = self.memory.keeps;
+        match self.recalled.get(place.as_str()) {
+            None => Some(reason_for(None, keeps, false)),
+            Some(found) => Some(reason_for(Some(&found.recalled), keeps, self.is_altered(found))),
+        }
+    }
+
+    // Whether what was fetched under its key was not what the row has.
+    fn is_altered(&self, found: &InRecord) -> bool {
+        match &found.key {
             None => false,
-            Some(recalled) => self.altered.contains(recalled.key.as_str()),
-        };
-        Some(reason_for(recalled, self.memory.keeps, is_altered))
+            Some(key) => self.altered.contains(key.as_str()),
+        }
     }
 
     fn note_answer(&mut self, place: &JobPlace, answer: &HostAnswer) -> Result<(), AllocError> {
@@ -310,8 +325,12 @@ impl<'a, R: AllocGlobal + Clock, L: Listen + TakeNear> Jobs<'a, R, L> {
         }
     }
 
-    // A run without an archive keeps rows alone, so it loses nothing with the files of others.
+    // A run without a record keeps nothing for later ones. One without an archive keeps rows alone, so it loses nothing with the files of
+    // others.
     fn note_row(&mut self, row: &Row, gone: &Items<Text>) -> Result<(), AllocError> {
+        if !self.memory.remembers {
+            return Ok(());
+        }
         let is_kept = row.archived || !self.memory.keeps;
         self.traces.hold_one_more(self.alloc, &row.key, is_kept)?;
         if self.memory.keeps {
@@ -332,12 +351,17 @@ impl<'a, R: AllocGlobal + Clock, L: Listen + TakeNear> Jobs<'a, R, L> {
         if let Some(row) = row {
             self.traces.keep_row(self.alloc, &place, row)?;
         }
-        let recalled = recalled_of(key.copied(self.alloc)?, row);
         let near = self.nearby.lines_on(key, row.is_some())?;
         if !near.as_str().is_empty() {
             self.listener.take_near(place.copied(self.alloc)?, near);
         }
-        self.recalled.insert(place, recalled)?;
+        let key = if self.memory.remembers {
+            Some(key.copied(self.alloc)?)
+        } else {
+            None
+        };
+        let recalled = recalled_of(row);
+        self.recalled.insert(place, InRecord { recalled, key })?;
         Ok(())
     }
 
@@ -359,7 +383,7 @@ impl<'a, R: AllocGlobal + Clock, L: Listen + TakeNear> Jobs<'a, R, L> {
     fn note_load(&mut self, place: &Text) -> Result<(), AllocError> {
         let cost = match self.recalled.get(place.as_str()) {
             None => 0,
-            Some(recalled) => recalled.cost,
+            Some(found) => found.recalled.cost,
         };
         self.loaded = self.loaded.saturating_add(1);
         self.gained = self.gained.saturating_add(cost);
@@ -381,16 +405,14 @@ fn longest_of(running: &[Running], age: u64) -> Option<Longest<'_>> {
     })
 }
 
-fn recalled_of(key: Text, row: &Option<Row>) -> Recalled {
+fn recalled_of(row: &Option<Row>) -> Recalled {
     match row {
         None => Recalled {
-            key,
             has_row: false,
             is_archived: false,
             cost: 0,
         },
         Some(row) => Recalled {
-            key,
             has_row: true,
             is_archived: row.archived,
             cost: row.cost,
