@@ -56,6 +56,13 @@ def of_many_files(count):
     return workflow({"n": "int[]", "fs": "File[]"}, {"o": {"type": "File[]", "outputSource": "s/o"}}, {"s": step}), inputs
 
 
+def of_many_texts(count):
+    """Returns so many jobs that each take an array of as many texts."""
+    step = {"in": {"n": "n", "texts": "texts"}, "out": ["o"], "scatter": "n", "run": tool({"n": "int", "texts": "string[]"})}
+    inputs = {"n": list(range(count)), "texts": [f"t{number}" for number in range(count)]}
+    return workflow({"n": "int[]", "texts": "string[]"}, {"o": {"type": "File[]", "outputSource": "s/o"}}, {"s": step}), inputs
+
+
 RUNS = [
     ("chain of 100", chain(100), 4),
     ("chain of 1,000", chain(1000), 4),
@@ -66,6 +73,7 @@ RUNS = [
     ("scatter of 16,000", scatter(16000), 64),
     ("1,000 that feed 1,000", two_scatters(1000), 4),
     ("200 of 200 files each", of_many_files(200), 4),
+    ("800 of 800 texts each", of_many_texts(800), 4),
 ]
 
 
