@@ -100,16 +100,6 @@ all_plans() {
         }'
 }
 
-# beside_paths SHAPE COSTS VERTICES: prints how often the time of `plan` a search takes that begins with no flow. `plan` only saves time by its level
-# graphs, and no contract says that it does: where they sent nothing, the two would take the same.
-beside_paths() {
-    python3 "$here/generate.py" "$@" > "$work/graph"
-    least ours "$ours" paths
-    awk -v shape="$1" -v costs="$2" -v vertices="$3" -v plan="$(value ours plan)" -v paths="$(value ours paths)" 'BEGIN {
-        printf "%s, %s, %d vertices: plan takes %.2f ms, a search that begins with no flow %.2f ms: %.1f times\n", shape, costs, vertices, plan / 1000, paths / 1000, paths / (plan > 0 ? plan : 1)
-    }'
-}
-
 # long_line: prints the memory that it takes to refuse a certificate whose third line has 20 MB
 long_line() {
     python3 -c 'print("cwl-plan 1\njobs 1\nC 1 - 1 1 1 1 5000000" + " 0 0" * 5_000_000 + "\nend")' > "$work/graph"
@@ -139,7 +129,4 @@ for vertices in "$@"; do
     all_plans first "$vertices"
     all_plans third "$vertices"
 done
-beside_paths layers decades 256
-beside_paths layers decades 1024
-beside_paths stairs - 1024
 long_line

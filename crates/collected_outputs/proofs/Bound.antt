@@ -1,5 +1,5 @@
 -- Outputs that are bound one after another.
-use Rattle.std.proofs.Common.{◌≡◌, ℕ, ◌+◌, ◌<◌, List, [], ◌∷◌, ◌++◌, length, get_or, take, drop, Option, Bool, true, false, true≢false, Result, Ok, Err, IfOk, sym, ap, subst, ◌∙◌}
+use Rattle.std.proofs.Common.{◌≡◌, ℕ, ◌+◌, ◌<◌, List, [], ◌∷◌, ◌++◌, length, get_or, take, drop, Option, Ok, Err, sym, ap, subst, ◌∙◌}
 use Rattle.std.proofs.lemmas.List.{take_more}
 use Rattle.cwl_process.specs.declared.tool.OutputBinding.{OutputBinding}
 use Rattle.cwl_process.specs.declared.tool.OutputType.{OutputType}
@@ -64,8 +64,3 @@ outputs_stop left outputs k o before (error.Refused refused) within is binds h =
   binds.0,
   subst (λ (l : List (Name × ToolOutput)). AreOutputs left l (Err (o.0, refused.fault))) (sym (whole outputs k o within is)) (AreOutputs.refused (take k outputs) (drop (k + 1) outputs) before o refused.fault h binds.1),
 )
-
--- what is said only without an object, where there is one
-pub otherwise : {T E : Type 0} (r : Result T E) (there : Bool) (P : T → Type 0) → true ≡ there → IfOk r (λ x. there ≡ false → P x)
-otherwise (Ok x) there P is = λ none. absurd (true≢false (is ∙ none))
-otherwise (Err e) there P is = tt

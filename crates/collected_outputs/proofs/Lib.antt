@@ -8,7 +8,6 @@ pub mod Existing
 pub mod Gathering
 pub mod Giving
 pub mod Inside
-pub mod Levels
 pub mod Listings
 pub mod Matching
 pub mod ObjectRead

@@ -11,7 +11,7 @@ use Rattle.cwl_value.specs.declared.value.Value.TheOpen.{Value-F}
 use Rattle.cwl_value.specs.declared.value.FileVal.{FileVal, out-FileVal, roll-FileVal}
 use Rattle.cwl_value.specs.declared.value.DirVal.{DirVal}
 use Rattle.collected_outputs.specs.Gives.{Gives, and_map, all_given}
-use Rattle.collected_outputs.specs.declared.contents.TheConstants.{MOST_CONTENTS}
+use Rattle.cwl_value.specs.declared.value.TheConstants.{MOST_CONTENTS}
 use Rattle.collected_outputs.specs.declared.fault.CollectFault.TheVariants.{TooLong, NotUtf8}
 
 -- the first bytes of files, by name

@@ -23,7 +23,7 @@ use Rattle.collected_outputs.specs.Object.{Named}
 use Rattle.collected_outputs.specs.Outputs.{Left, has_object}
 use Rattle.collected_outputs.specs.Throughout.{all_pass, all_places, has_no_contents}
 use Rattle.collected_outputs.specs.Values.{checksum_of}
-use Rattle.collected_outputs.specs.declared.contents.TheConstants.{MOST_CONTENTS}
+use Rattle.cwl_value.specs.declared.value.TheConstants.{MOST_CONTENTS}
 use Rattle.collected_outputs.specs.declared.listing.Entry.{Entry}
 use Rattle.collected_outputs.specs.declared.object.TheConstants.{MOST_OBJECT}
 

@@ -1,10 +1,10 @@
 -- Which output objects can be read back from their JSON: no fields have the class of a File or Directory, the object's own among them, and
 -- nothing nests too deep.
-use Rattle.std.specs.Prelude.{ℕ, Bool, false, not, suc, max, ◌||◌, ◌&&◌, nat_le, List, [], ◌∷◌, map, codes, bytes_eq}
+use Rattle.std.specs.Prelude.{Bool, false, not, ◌||◌, ◌&&◌, List, codes, bytes_eq}
 use Rattle.std.specs.Option.{option_map_or}
 use Rattle.std.specs.List.{list_any}
 use Rattle.plain_data.specs.ByName.{value_at}
-use Rattle.cwl_value.specs.Reading.{greatest_depth}
+use Rattle.value_depth.specs.Limit.{is_object_within_limit}
 use Rattle.cwl_value.specs.declared.value.Value.{Value, fold-Value}
 use Rattle.cwl_value.specs.declared.value.Value as value
 use Rattle.cwl_value.specs.declared.value.Value.TheOpen.{Value-F, FileVal-F, DirVal-F}
@@ -54,42 +54,6 @@ file_class = fold-FileVal Seen Bool Bool seen_value seen_dir seen_file
 abbrev pub dir_class : DirVal → Bool
 dir_class = fold-DirVal Seen Bool Bool seen_value seen_dir seen_file
 
--- How deep the JSON of a value nests: lists, fields, Files and Directories are a level each, and so are the lists in these.
-
-abbrev pub greatest : List ℕ → ℕ
-greatest [] = 0
-greatest (n ∷ ns) = max n (greatest ns)
-
-abbrev pub level_of : List ℕ → ℕ
-level_of ns = suc (greatest ns)
-
--- a File without secondary files has no such list
-abbrev pub level_if_any : List ℕ → ℕ
-level_if_any [] = 0
-level_if_any (n ∷ ns) = level_of (n ∷ ns)
-
-abbrev pub nesting_value : Value-F ℕ ℕ ℕ → ℕ
-nesting_value (Value-F.FileVal n) = n
-nesting_value (Value-F.DirVal n) = n
-nesting_value (Value-F.List ns) = level_of ns
-nesting_value (Value-F.Fields ns) = level_of (map (λ e. e.1) ns)
-nesting_value _ = 0
-
-abbrev pub nesting_file : FileVal-F ℕ ℕ ℕ → ℕ
-nesting_file f = suc (level_if_any f.secondary)
-
-abbrev pub nesting_dir : DirVal-F ℕ ℕ ℕ → ℕ
-nesting_dir d = suc (option_map_or level_of d.listing 0)
-
-abbrev pub nesting : Value → ℕ
-nesting = fold-Value ℕ ℕ ℕ nesting_value nesting_dir nesting_file
-
-abbrev pub file_nesting : FileVal → ℕ
-file_nesting = fold-FileVal ℕ ℕ ℕ nesting_value nesting_dir nesting_file
-
-abbrev pub dir_nesting : DirVal → ℕ
-dir_nesting = fold-DirVal ℕ ℕ ℕ nesting_value nesting_dir nesting_file
-
--- the object is itself such fields: it has no class, and is a level
+-- the object is itself such fields
 abbrev pub is_readable : List (Name × Value) → Bool
-is_readable values = not (has_class (value.Fields values)) && nat_le (nesting (value.Fields values)) greatest_depth
+is_readable values = not (has_class (value.Fields values)) && is_object_within_limit values

@@ -5,7 +5,7 @@ ghost use Rattle.cwl_value.specs.declared.value.FileVal.{out-FileVal, roll-FileV
 ghost use Rattle.collected_outputs.specs.Checked as spec;
 
 use cwl_value::{DirVal, FileVal, Value};
-use plain_data::{Items, Keyed, Text};
+use plain_data::{Items, Keyed, Text, copied_if_any};
 use std::alloc::{AllocError, Global};
 
 /// The value, with no contents in it.
@@ -59,8 +59,8 @@ fn file_with(alloc: Global, file: &FileVal, secondary: Items<Value>) -> Result<F
         ≡ roll-FileVal (record (out-FileVal file.now) { contents = None; secondary = secondary })) }
 {
     let place = file.place.clone_in(alloc)?;
-    let basename = copy_if_any(alloc, &file.basename)?;
-    let checksum = copy_if_any(alloc, &file.checksum)?;
+    let basename = copied_if_any(alloc, &file.basename)?;
+    let checksum = copied_if_any(alloc, &file.checksum)?;
     Ok(FileVal {
         place,
         basename,
@@ -76,7 +76,7 @@ fn bare_dir(alloc: Global, dir: &DirVal) -> Result<DirVal, AllocError>
     ensures { IfOk result (λ found. found ≡ spec.dir_bare dir.now) }
 {
     let place = dir.place.clone_in(alloc)?;
-    let basename = copy_if_any(alloc, &dir.basename)?;
+    let basename = copied_if_any(alloc, &dir.basename)?;
     match &dir.listing {
         None => Ok(DirVal {
             place,
@@ -91,14 +91,5 @@ fn bare_dir(alloc: Global, dir: &DirVal) -> Result<DirVal, AllocError>
                 listing: Some(listing),
             })
         }
-    }
-}
-
-fn copy_if_any(alloc: Global, text: &Option<Text>) -> Result<Option<Text>, AllocError>
-    ensures { IfOk result (λ copy. copy ≡ text.now) }
-{
-    match text {
-        None => Ok(None),
-        Some(text) => Ok(Some(text.copied(alloc)?)),
     }
 }

@@ -21,7 +21,6 @@ use crate::evaluation::{Speaks, runtime_of, value_in};
 use crate::fault::{CollectError, CollectFault, Stop};
 use crate::listing::{Entry, listing_of};
 use crate::matches::matched_names;
-use crate::nesting::{MOST_NESTING, object_within};
 use crate::object::OUTPUT_OBJECT;
 use crate::patterns::{read_patterns, texts_of};
 use crate::secondary::with_secondary;
@@ -34,6 +33,7 @@ use param_refs::Template;
 use plain_data::{Items, Keyed, Text};
 use staging::Found;
 use std::alloc::{AllocError, Global};
+use value_depth::is_object_within_limit;
 
 /// The files that took a command's streams, by their names in the output folder; empty where a stream was discarded.
 #[derive(Clone, Copy, Drop)]
@@ -135,7 +135,7 @@ fn readable_outputs(
 fn is_readable(outputs: &Keyed<Value>) -> bool
     ensures { result ≡ is_readable outputs.now }
 {
-    !object_has_class(outputs) && object_within(outputs, MOST_NESTING)
+    !object_has_class(outputs) && is_object_within_limit(outputs)
 }
 
 fn outputs_of(alloc: Global, tool: &Tool, folder: Folder<'_>) -> Result<Keyed<Value>, CollectError>

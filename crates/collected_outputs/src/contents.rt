@@ -5,13 +5,10 @@ ghost use Rattle.collected_outputs.specs.Contents as spec;
 ghost use Rattle.collected_outputs.specs.Gives.{Refuses};
 
 use crate::fault::{CollectFault, Stop};
-use cwl_value::{FileVal, Place, Value};
+use cwl_value::{FileVal, MOST_CONTENTS, Place, Value};
 use plain_data::{Items, Keyed, Text};
 use std::alloc::{AllocError, Global};
 use std::str;
-
-/// The most bytes that a file has whose contents are read (CWL v1.2, `loadContents`).
-pub const MOST_CONTENTS: u64 = 65_536;
 
 /// Reads the contents of each File among the values.
 pub(crate) fn load_all(

@@ -8,14 +8,13 @@ ghost use Rattle.collected_outputs.specs.inner.Steps.{texts_by, NoNames};
 ghost use Rattle.collected_outputs.specs.inner.Wanted.{AddsWanted, IsOnceOf, NoneWanted};
 
 use crate::collect::{Folder, StreamNames, names_of, object_entry};
-use crate::contents::MOST_CONTENTS;
 use crate::evaluation::{Speaks, runtime_of};
 use crate::fault::{CollectError, Stop};
 use crate::listing::{Entry, listing_of};
 use crate::matches::without_repeats;
 use crate::object::{MOST_OBJECT, OUTPUT_OBJECT};
 use cwl_process::{OutputType, Tool, ToolOutput};
-use cwl_value::Value;
+use cwl_value::{MOST_CONTENTS, Value};
 use plain_data::{Items, Keyed, Text};
 use staging::Found;
 use std::alloc::{AllocError, Global};

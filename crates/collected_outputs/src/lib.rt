@@ -14,7 +14,6 @@ mod heads;
 mod laws;
 mod listing;
 mod matches;
-mod nesting;
 mod object;
 mod paths;
 mod patterns;
@@ -24,7 +23,6 @@ mod values;
 mod written;
 
 pub use collect::{LeftBehind, StreamNames, collect_outputs};
-pub use contents::MOST_CONTENTS;
 pub use fault::{CollectError, CollectFault, OutputFault};
 pub use heads::{head_limit, heads_wanted};
 pub use laws::{

@@ -1,6 +1,6 @@
 ghost use Rattle.std.specs.Prelude.{◌≡◌, IfOk};
 
-use plain_data::{Items, Text};
+use plain_data::{Items, Text, copied_if_any};
 use std::alloc::{AllocError, Global};
 
 /// A variable of the child's environment.
@@ -47,20 +47,11 @@ impl Launch {
         Ok(Launch {
             words: words_copy(alloc, self.words.as_slice())?,
             env: env_copy(alloc, self.env.as_slice())?,
-            stdin: name_copy(alloc, &self.stdin)?,
-            stdout: name_copy(alloc, &self.stdout)?,
-            stderr: name_copy(alloc, &self.stderr)?,
+            stdin: copied_if_any(alloc, &self.stdin)?,
+            stdout: copied_if_any(alloc, &self.stdout)?,
+            stderr: copied_if_any(alloc, &self.stderr)?,
             dir: self.dir.copied(alloc)?,
         })
-    }
-}
-
-fn name_copy(alloc: Global, name: &Option<Text>) -> Result<Option<Text>, AllocError>
-    ensures { IfOk result (λ copy. copy ≡ name.now) }
-{
-    match name {
-        None => Ok(None),
-        Some(text) => Ok(Some(text.copied(alloc)?)),
     }
 }
 

@@ -114,11 +114,6 @@ pub made_differ : {X Y : Type 0} (f : X → Y) (es : List (List ℕ × X)) (made
 made_differ f es made rest is distinct =
     front_distinct (keys_of made) (keys_of rest) (subst (IsDistinct bytes_eq) (sym (sym (keys_joined made rest) ∙ ap keys_of is ∙ keys_stay f es)) distinct)
 
--- a copy of what was so far copied of entries whose ids differ
-pub copies_differ : {X : Type 0} (es copies rest : List (List ℕ × X)) → copies ++ rest ≡ es → IsDistinct bytes_eq (keys_of es) → IsDistinct bytes_eq (keys_of copies)
-copies_differ es copies rest is distinct =
-    front_distinct (keys_of copies) (keys_of rest) (subst (IsDistinct bytes_eq) (sym (sym (keys_joined copies rest) ∙ ap keys_of is)) distinct)
-
 -- no entries
 pub none_differ : {X : Type 0} (es : List (List ℕ × X)) → es ≡ [] → IsDistinct bytes_eq (keys_of es)
 unfolding IsDistinct

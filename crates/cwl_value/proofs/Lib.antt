@@ -13,5 +13,6 @@ pub mod Sorting
 pub mod Stable
 pub mod Texts
 pub mod Told
+pub mod Unmoved
 pub mod Whole
 pub mod WithoutFiles

@@ -98,10 +98,6 @@ pub picked-None : (b : Bool) (before : Option Data) → before ≡ picked b None
 picked-None true before = refl
 picked-None false before = refl
 
-pub picked-first : (o : Option Data) → picked true o None ≡ o
-picked-first None = refl
-picked-first (Some d) = refl
-
 pub get_member-put_at : (q k : List ℕ) (d : Data) (ms : Members) (b : Bool) → bytes_eq q k ≡ b → get_member q (put k d ms) ≡ picked b (Some d) (get_member q ms)
 get_member-put_at q k d ms true is = subst (λ n. get_member n (put k d ms) ≡ Some d) (sym ((bytes_decides q k).0 is)) (get_member-put k d ms)
 get_member-put_at q k d ms false is = get_member-put_other q k d ms (λ same. true≢false (sym ((bytes_decides q k).1 same) ∙ is))

@@ -5,6 +5,7 @@ pub mod Fileless
 pub mod Json
 pub mod Laws
 pub mod NameParts
+pub mod Placed
 pub mod Places
 pub mod Plain
 pub mod Reading

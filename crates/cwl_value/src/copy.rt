@@ -4,17 +4,8 @@ ghost use Rattle.cwl_value.specs.declared.value.Value as value;
 
 use crate::place::{JobPlace, Place, Segment};
 use crate::value::{DirVal, FileVal, Value};
-use plain_data::{Items, Keyed, SharedItems, Text};
+use plain_data::{Items, Keyed, SharedItems, Text, copied_if_any};
 use std::alloc::{AllocError, Global};
-
-pub(crate) fn copy_if_any(alloc: Global, text: &Option<Text>) -> Result<Option<Text>, AllocError>
-    ensures { IfOk result (λ copy. copy ≡ text.now) }
-{
-    match text {
-        None => Ok(None),
-        Some(text) => Ok(Some(text.copied(alloc)?)),
-    }
-}
 
 /// Copies of the texts of a File: its basename, its checksum and its contents.
 pub(crate) fn copy_texts(
@@ -27,9 +18,9 @@ pub(crate) fn copy_texts(
     ensures checksum { IfOk result (λ copies. copies.1 ≡ checksum.now) }
     ensures contents { IfOk result (λ copies. copies.2 ≡ contents.now) }
 {
-    let basename = copy_if_any(alloc, basename)?;
-    let checksum = copy_if_any(alloc, checksum)?;
-    let contents = copy_if_any(alloc, contents)?;
+    let basename = copied_if_any(alloc, basename)?;
+    let checksum = copied_if_any(alloc, checksum)?;
+    let contents = copied_if_any(alloc, contents)?;
     Ok((basename, checksum, contents))
 }
 
@@ -127,7 +118,7 @@ impl DirVal {
         ensures { IfOk result (λ copy. copy ≡ self.now) }
     {
         let place = self.place.clone_in(alloc)?;
-        let basename = copy_if_any(alloc, &self.basename)?;
+        let basename = copied_if_any(alloc, &self.basename)?;
         let listing = match &self.listing {
             None => None,
             Some(items) => Some(copy_items(alloc, items)?),

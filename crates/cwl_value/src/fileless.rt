@@ -6,7 +6,7 @@ ghost use Rattle.cwl_value.specs.Fileless.{holds_files, is_class_of_files, is_fi
 
 use crate::depth::nests_within;
 use crate::members::class_of;
-use crate::read::GREATEST_DEPTH;
+use crate::read::MOST_NESTING;
 use crate::value::Value;
 use plain_data::{Items, Keyed};
 use serde_json::Value as Json;
@@ -16,7 +16,7 @@ use serde_json::value::Map;
 pub fn stands_fileless(json: &Json) -> bool
     ensures { result ≡ stands_fileless (view json.now) }
 {
-    is_fileless(json) && nests_within(json, GREATEST_DEPTH)
+    is_fileless(json) && nests_within(json, MOST_NESTING)
 }
 
 #[cycle(fileless)]

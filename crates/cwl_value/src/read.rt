@@ -19,7 +19,8 @@ use serde_json::value::Map;
 use serde_json::{Number, Value as Json};
 use std::alloc::Global;
 
-pub(crate) const GREATEST_DEPTH: usize = 100;
+/// How deep arrays and objects may nest in the JSON of a value that is read.
+pub const MOST_NESTING: usize = 100;
 
 /// Reads a value from JSON text (CWL v1.2, "Data concepts", File and Directory).
 ///
@@ -43,7 +44,7 @@ pub fn from_json(alloc: Global, json: &Json) -> Result<Value, ValueRefusal>
     ensures ok { IfOk result (λ v. reading (view json.now) ≡ Ok v) }
     ensures err { IfErr result (λ e. e ≢ OutOfMemory → reading (view json.now) ≡ Err e) }
 {
-    if !nests_within(json, GREATEST_DEPTH) {
+    if !nests_within(json, MOST_NESTING) {
         return Err(ValueRefusal::TooDeep);
     }
     read(alloc, json)

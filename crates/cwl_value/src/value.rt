@@ -1,6 +1,9 @@
 use crate::place::Place;
 use plain_data::{Items, Keyed, SharedItems, Text};
 
+/// The most bytes that a file has whose contents are read (CWL v1.2, `loadContents`).
+pub const MOST_CONTENTS: u64 = 65_536;
+
 /// A value of CWL, as inputs and outputs are made of (CWL v1.2, "Data concepts").
 #[derive(Drop)]
 #[cycle(value)]

@@ -129,7 +129,7 @@ abbrev AStep : Finds → Home → List (List ℕ × Data) → List ℕ → Type 
 AStep find h es id = (k : ℕ) × (e : List ℕ × Data) × (run : Data) × (slice_get es k ≡ Some e) × (get (codes "run") e.1 ≡ Some run) × RunsAbsent find h run id
 
 at_step : (find : Finds) (inner : ℕ → Home → Data → Left) (room : ℕ) (h : Home) (d : Data) (o : Option Data) (id : List ℕ) → Tells find inner → get (codes "run") d ≡ o
-    → absent (option_map_or (run_left inner find room h) o (Ok room)) ≡ Some id → (run : Data) × (get (codes "run") d ≡ Some run) × RunsAbsent find h run id
+    → absent (option_map_or (run_left inner (target find) room h) o (Ok room)) ≡ Some id → (run : Data) × (get (codes "run") d ≡ Some run) × RunsAbsent find h run id
 at_step find inner room h d None id tells has lost = absurd (none-some id lost)
 at_step find inner room h d (Some run) id tells has lost = (run, has, at_run find inner room h run (as_str run) id tells refl lost)
 
@@ -138,25 +138,25 @@ either C (inl a) f g = f a
 either C (inr b) f g = g b
 
 at_steps : (find : Finds) (inner : ℕ → Home → Data → Left) (room : ℕ) (h : Home) (es : List (List ℕ × Data)) (id : List ℕ) → Tells find inner
-    → absent (steps_left inner find room h es) ≡ Some id → AStep find h es id
+    → absent (steps_left inner (target find) room h es) ≡ Some id → AStep find h es id
 at_steps find inner room h [] id tells lost = absurd (none-some id lost)
 at_steps find inner room h (e ∷ es) id tells lost =
     either (AStep find h (e ∷ es) id) (absent_then _ _ id lost)
     (λ own.
     let run = at_step find inner room h e.1 (get (codes "run") e.1) id tells refl
-    (absent_within (codes "run") _ id (absent_checked (defaults_fault h.url kind.StepInput (codes "in") e.1) _ id (absent_within e.0 (step_left inner find room h e.1) id own))) in
+    (absent_within (codes "run") _ id (absent_checked (defaults_fault h.url kind.StepInput (codes "in") e.1) _ id (absent_within e.0 (step_left inner (target find) room h e.1) id own))) in
     (0, e, run.0, refl, run.1, run.2))
     (λ more.
     let later = at_steps find inner more.0 h es id tells more.1 in
     (suc later.0, later.1, later.2, later.3, later.4, later.5))
 
 at_field : (find : Finds) (inner : ℕ → Home → Data → Left) (room : ℕ) (h : Home) (o : Option Data) (id : List ℕ) → Tells find inner
-    → absent (option_map_or (λ v. steps_left inner find room h (entries kind.Step v)) o (Ok room)) ≡ Some id → AStep find h (option_map_or (entries kind.Step) o []) id
+    → absent (option_map_or (λ v. steps_left inner (target find) room h (entries kind.Step v)) o (Ok room)) ≡ Some id → AStep find h (option_map_or (entries kind.Step) o []) id
 at_field find inner room h None id tells lost = absurd (none-some id lost)
 at_field find inner room h (Some v) id tells lost = at_steps find inner room h (entries kind.Step v) id tells lost
 
 at_level : (find : Finds) (inner : ℕ → Home → Data → Left) (room : ℕ) (h : Home) (d : Data) (test : Bool) (id : List ℕ) → Tells find inner → is_workflow d ≡ test
-    → absent (if test then workflow_left inner find room h d else tool_left room h d) ≡ Some id → NamesAbsent find h d id
+    → absent (if test then workflow_left inner (target find) room h d else tool_left room h d) ≡ Some id → NamesAbsent find h d id
 at_level find inner room h d true id tells is lost =
     let one = at_field find inner room h (get (codes "steps") d) id tells
     (absent_within (codes "steps") _ id (absent_checked (defaults_fault h.url kind.WorkflowInput (codes "inputs") d) _ id lost)) in
@@ -169,12 +169,12 @@ at_bottom : (room : ℕ) (h : Home) (d : Data) (test : Bool) (id : List ℕ) (T 
 at_bottom room h d true id T lost = absurd (none-some id lost)
 at_bottom room h d false id T lost = absurd (none-some id (absent_checked (defaults_fault h.url kind.ToolInput (codes "inputs") d) (Ok room) id lost))
 
-all_named : (find : Finds) (levels room : ℕ) (h : Home) (d : Data) (id : List ℕ) → absent (left find levels room h d) ≡ Some id → NamesAbsent find h d id
+all_named : (find : Finds) (levels room : ℕ) (h : Home) (d : Data) (id : List ℕ) → absent (left (target find) levels room h d) ≡ Some id → NamesAbsent find h d id
 unfolding left
 all_named find zero zero h d id lost = absurd (none-some id lost)
 all_named find zero (suc room) h d id lost = at_bottom room h d (is_workflow d) id _ lost
 all_named find (suc levels) zero h d id lost = absurd (none-some id lost)
-all_named find (suc levels) (suc room) h d id lost = at_level find (left find levels) room h d (is_workflow d) id (λ room h d id lost. all_named find levels room h d id lost) refl lost
+all_named find (suc levels) (suc room) h d id lost = at_level find (left (target find) levels) room h d (is_workflow d) id (λ room h d id lost. all_named find levels room h d id lost) refl lost
 
 -- ---- documents
 

@@ -1,4 +1,5 @@
 pub mod Absent
+pub mod Alone
 pub mod Bounding
 pub mod Counted
 pub mod Differ

@@ -6,6 +6,8 @@ use Rattle.std.proofs.lemmas.Option.{none-some, same_Some}
 use Rattle.std.specs.List.Sorted.{IsStrictlySortedBy}
 use Rattle.plain_data.specs.ByName.{IsByName, name_cmp, value_at}
 use Rattle.document_links.specs.Library.{Documents, Found, IsReadAs, Readings, finds_among, seen}
+use Rattle.document_links.specs.Targets.{leads_in, target}
+use Rattle.document_links.specs.declared.library.Library.TheVariants.{Read}
 use Rattle.document_links.specs.declared.library.Reading.{Reading}
 use Rattle.document_links.specs.inner.Sound.{AllSound, IsSoundReading}
 
@@ -70,3 +72,8 @@ all_sound [] [] all url reading is = absurd (none-some reading is)
 all_sound [] (m ∷ ms) all url reading is = absurd all
 all_sound (e ∷ es) [] all url reading is = absurd all
 all_sound (e ∷ es) (m ∷ ms) all url reading is = one_sound m (value_at url ms) (bytes_eq url m.0) reading all.0.2 (all_sound es ms all.1 url reading) is
+
+-- A name leads to what is found.
+pub read_leads : (readings : Readings) → leads_in (Read readings) ≡ target (finds_among readings)
+unfolding leads_in target
+read_leads readings = refl

@@ -254,7 +254,7 @@ at_run find inner urls room h run None url tells named lost = tells room h run u
 at_run find inner urls room h run (Some name) url tells named lost = at_name find inner urls room h name (has_hash name) url tells named lost
 
 at_step : (find : Finds) (inner : ℕ → Home → Data → Left) (urls : Home → Data → List (List ℕ)) (room : ℕ) (h : Home) (o : Option Data) (url : List ℕ)
-    → Tells find inner urls → AreNamed urls → missing (option_map_or (run_left inner find room h) o (Ok room)) ≡ Some url → Missed find (option_map_or (run_urls (urls h) h) o []) url
+    → Tells find inner urls → AreNamed urls → missing (option_map_or (run_left inner (target find) room h) o (Ok room)) ≡ Some url → Missed find (option_map_or (run_urls (urls h) h) o []) url
 at_step find inner urls room h None url tells named lost = absurd (none-some url lost)
 at_step find inner urls room h (Some run) url tells named lost = at_run find inner urls room h run (as_str run) url tells named lost
 
@@ -263,7 +263,7 @@ either C (inl a) f g = f a
 either C (inr b) f g = g b
 
 at_steps : (find : Finds) (inner : ℕ → Home → Data → Left) (urls : Home → Data → List (List ℕ)) (room : ℕ) (h : Home) (es : List (List ℕ × Data)) (url : List ℕ)
-    → Tells find inner urls → AreNamed urls → missing (steps_left inner find room h es) ≡ Some url → Missed find (steps_urls (urls h) h es) url
+    → Tells find inner urls → AreNamed urls → missing (steps_left inner (target find) room h es) ≡ Some url → Missed find (steps_urls (urls h) h es) url
 at_steps find inner urls room h [] url tells named lost = absurd (none-some url lost)
 at_steps find inner urls room h (e ∷ es) url tells named lost =
     let first = step_urls (urls h) h e.1 in
@@ -272,17 +272,17 @@ at_steps find inner urls room h (e ∷ es) url tells named lost =
     (λ own.
     missed_more find first (first ++ later) url (in_front first later)
     (at_step find inner urls room h (get (codes "run") e.1) url tells named
-    (missing_within (codes "run") _ url (missing_checked _ _ url (missing_within e.0 (step_left inner find room h e.1) url own)))))
+    (missing_within (codes "run") _ url (missing_checked _ _ url (missing_within e.0 (step_left inner (target find) room h e.1) url own)))))
     (λ more. missed_more find later (first ++ later) url (in_back first later) (at_steps find inner urls more.0 h es url tells named more.1))
 
 at_field : (find : Finds) (inner : ℕ → Home → Data → Left) (urls : Home → Data → List (List ℕ)) (room : ℕ) (h : Home) (o : Option Data) (url : List ℕ)
-    → Tells find inner urls → AreNamed urls → missing (option_map_or (λ v. steps_left inner find room h (entries kind.Step v)) o (Ok room)) ≡ Some url
+    → Tells find inner urls → AreNamed urls → missing (option_map_or (λ v. steps_left inner (target find) room h (entries kind.Step v)) o (Ok room)) ≡ Some url
     → Missed find (option_map_or (λ v. steps_urls (urls h) h (entries kind.Step v)) o []) url
 at_field find inner urls room h None url tells named lost = absurd (none-some url lost)
 at_field find inner urls room h (Some v) url tells named lost = at_steps find inner urls room h (entries kind.Step v) url tells named lost
 
 at_level : (find : Finds) (inner : ℕ → Home → Data → Left) (urls : Home → Data → List (List ℕ)) (room : ℕ) (h : Home) (d : Data) (test : Bool) (url : List ℕ)
-    → Tells find inner urls → AreNamed urls → missing (if test then workflow_left inner find room h d else tool_left room h d) ≡ Some url
+    → Tells find inner urls → AreNamed urls → missing (if test then workflow_left inner (target find) room h d else tool_left room h d) ≡ Some url
     → Missed find (if test then workflow_urls (urls h) h d else []) url
 at_level find inner urls room h d true url tells named lost =
     at_field find inner urls room h (get (codes "steps") d) url tells named (missing_within (codes "steps") _ url (missing_checked _ _ url lost))
@@ -294,13 +294,13 @@ at_bottom : (find : Finds) (room : ℕ) (h : Home) (d : Data) (test : Bool) (url
 at_bottom find room h d true url T lost = absurd (none-some url lost)
 at_bottom find room h d false url T lost = absurd (none-some url (missing_checked (defaults_fault h.url kind.ToolInput (codes "inputs") d) (Ok room) url lost))
 
-all_missed : (find : Finds) (levels room : ℕ) (h : Home) (d : Data) (url : List ℕ) → levels ≤ MOST_WORKFLOWS → missing (left find levels room h d) ≡ Some url → Missed find (urls_in levels h d) url
+all_missed : (find : Finds) (levels room : ℕ) (h : Home) (d : Data) (url : List ℕ) → levels ≤ MOST_WORKFLOWS → missing (left (target find) levels room h d) ≡ Some url → Missed find (urls_in levels h d) url
 unfolding left urls_in
 all_missed find zero zero h d url most lost = absurd (none-some url lost)
 all_missed find zero (suc room) h d url most lost = at_bottom find room h d (is_workflow d) url _ lost
 all_missed find (suc levels) zero h d url most lost = absurd (none-some url lost)
 all_missed find (suc levels) (suc room) h d url most lost =
-    at_level find (left find levels) (urls_in levels) room h d (is_workflow d) url
+    at_level find (left (target find) levels) (urls_in levels) room h d (is_workflow d) url
     (λ room h d url lost. all_missed find levels room h d url (omega (arith, most)) lost)
     (λ at d url is. all_named levels at d url (omega (arith, most)) is) lost
 

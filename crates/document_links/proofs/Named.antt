@@ -9,16 +9,19 @@ use Rattle.serde_json.specs.Data.{Data, null}
 use Rattle.serde_json.specs.View.{view}
 use Rattle.serde_json.specs.declared.value.Value as value
 use Rattle.serde_json.specs.declared.value.Value.{the_lemmas}
+use Rattle.document_table.specs.declared.indexed.Indexed.{Indexed}
 use Rattle.plain_data.specs.ByName.{value_at, with_value}
 use Rattle.plain_data.proofs.Lookup.{value_at-with_value}
 use Rattle.cwl_process.specs.Documents as one
 use Rattle.cwl_process.specs.Processes.{is_workflow}
 use Rattle.url.specs.Parts.{Parts}
-use Rattle.document_links.specs.Documents.{IsErrorOf, IsNotNeeding, bounded}
+use Rattle.document_links.specs.Documents.{IsErrorOf, IsNotNeeding, bounded_by}
 use Rattle.document_links.specs.Homes.{Home}
-use Rattle.document_links.specs.Names.{added, anything, is_in, urls_in, workflow_urls}
+use Rattle.document_links.specs.Names.{added, alone, is_in, urls_in, workflow_urls}
+use Rattle.document_links.specs.Targets.{leads_in, stands_in}
 use Rattle.document_links.specs.declared.fault.LinkError.{LinkError}
 use Rattle.document_links.specs.declared.fault.LinkError.TheVariants.{Refused, OutOfMemory}
+use Rattle.document_links.specs.declared.library.Library.TheVariants.{Any}
 
 before : (n : ℕ) → n ≡ suc n - 1
 before n = omega arith
@@ -46,7 +49,12 @@ no_more urls more is = sym (ap (λ x. urls ++ x) is ∙ append-nil urls)
 pub null_seen : view value.Null ≡ null
 null_seen = search (rules, the_lemmas)
 
-pub not_needing : (bytes : List ℕ) (base : Parts) (d : Data) (e : LinkError) → one.IsSound bytes d → IsErrorOf (bounded anything base d) e → IsNotNeeding e bytes base
+-- What is empty stands in for each document and each item.
+pub leads_alone : (document : Indexed) → view document.json ≡ null → leads_in (Any document) ≡ alone
+unfolding leads_in stands_in
+leads_alone document is = ap stands_in is
+
+pub not_needing : (bytes : List ℕ) (base : Parts) (d : Data) (e : LinkError) → one.IsSound bytes d → IsErrorOf (bounded_by alone base d) e → IsNotNeeding e bytes base
 not_needing bytes base d (Refused fault) sound is = inr (d, sound, is)
 not_needing bytes base d OutOfMemory sound is = tt
 

@@ -154,14 +154,14 @@ by_name find inner f room h asked run n None all builds has is ok = IsRunBy.embe
 by_name find inner f room h asked run n (Some name) all builds has is ok = at_name find inner f room h asked run name n (has_hash name) all builds is refl ok
 
 step_built : (find : Finds) (inner : ℕ → Home → Data → Left) (f : Home → Asked → Data → Process) (room : ℕ) (h : Home) (asked : Asked) (d : Data) (n : ℕ) (has : HasRun d)
-    → AllAreProcesses find → Builds find inner f → step_left inner find room h d ≡ Ok n → IsRunBy find h asked has.0 (building.run_at f find h asked d)
+    → AllAreProcesses find → Builds find inner f → step_left inner (target find) room h d ≡ Ok n → IsRunBy find h asked has.0 (building.run_at f find h asked d)
 step_built find inner f room h asked d n has all builds ok =
     subst (IsRunBy find h asked has.0) (sym (ap (λ o. option_map_or (run_in f find h asked) o (nothing asked)) has.1))
     (by_name find inner f room h asked has.0 n (as_str has.0) all builds has.2 refl
-    (sym (ap (λ o. option_map_or (run_left inner find room h) o (Ok room)) has.1) ∙ within_ok (codes "run") _ n (checked_ok _ _ n ok)))
+    (sym (ap (λ o. option_map_or (run_left inner (target find) room h) o (Ok room)) has.1) ∙ within_ok (codes "run") _ n (checked_ok _ _ n ok)))
 
 steps_built : (find : Finds) (inner : ℕ → Home → Data → Left) (f : Home → Asked → Data → Process) (room : ℕ) (h : Home) (id : List ℕ) (around : Asked) (es : List (List ℕ × Data)) (n : ℕ)
-    → AllAreProcesses find → Builds find inner f → HaveRuns es → steps_left inner find room h es ≡ Ok n → AreStepsOf find h id around es (stepped (step_in f find h id around) es)
+    → AllAreProcesses find → Builds find inner f → HaveRuns es → steps_left inner (target find) room h es ≡ Ok n → AreStepsOf find h id around es (stepped (step_in f find h id around) es)
 steps_built find inner f room h id around [] n all builds have ok = AreStepsOf.no_step h id around
 steps_built find inner f room h id around (e ∷ es) n all builds have ok =
     let left = then_ok _ _ n ok in
@@ -171,13 +171,13 @@ steps_built find inner f room h id around (e ∷ es) n all builds have ok =
 
 field_built : (find : Finds) (inner : ℕ → Home → Data → Left) (f : Home → Asked → Data → Process) (room : ℕ) (h : Home) (id : List ℕ) (around : Asked) (o : Option Data) (n : ℕ)
     → AllAreProcesses find → Builds find inner f → MayHaveForm (form.Objects kind.Step) o
-    → option_map_or (λ v. steps_left inner find room h (entries kind.Step v)) o (Ok room) ≡ Ok n
+    → option_map_or (λ v. steps_left inner (target find) room h (entries kind.Step v)) o (Ok room) ≡ Ok n
     → AreStepsOf find h id around (option_map_or (entries kind.Step) o []) (option_map_or (λ v. stepped (step_in f find h id around) (entries kind.Step v)) o [])
 field_built find inner f room h id around None n all builds has ok = AreStepsOf.no_step h id around
 field_built find inner f room h id around (Some v) n all builds has ok = steps_built find inner f room h id around (entries kind.Step v) n all builds (steps_run v has) ok
 
 workflow_built : (find : Finds) (inner : ℕ → Home → Data → Left) (f : Home → Asked → Data → Process) (room : ℕ) (h : Home) (around : Asked) (d : Data) (n : ℕ)
-    → AllAreProcesses find → Builds find inner f → IsProcess d → is_workflow d ≡ true → workflow_left inner find room h d ≡ Ok n
+    → AllAreProcesses find → Builds find inner f → IsProcess d → is_workflow d ≡ true → workflow_left inner (target find) room h d ≡ Ok n
     → IsProcessOf find h around d (process.Workflow (workflow_in f find h around d))
 workflow_built find inner f room h around d n all builds is test ok =
     IsProcessOf.workflow h around d _ test (checked_none _ _ n ok)
@@ -186,7 +186,7 @@ workflow_built find inner f room h around d n all builds is test ok =
 -- ---- all levels
 
 at_level : (find : Finds) (inner : ℕ → Home → Data → Left) (f : Home → Asked → Data → Process) (room : ℕ) (h : Home) (around : Asked) (d : Data) (n : ℕ) (test : Bool)
-    → AllAreProcesses find → Builds find inner f → IsProcess d → is_workflow d ≡ test → (if test then workflow_left inner find room h d else tool_left room h d) ≡ Ok n
+    → AllAreProcesses find → Builds find inner f → IsProcess d → is_workflow d ≡ test → (if test then workflow_left inner (target find) room h d else tool_left room h d) ≡ Ok n
     → IsProcessOf find h around d (if test then process.Workflow (workflow_in f find h around d) else process.Tool (tool_on h.url (tool_in around d)))
 at_level find inner f room h around d n true all builds is test ok = workflow_built find inner f room h around d n all builds is test ok
 at_level find inner f room h around d n false all builds is test ok = IsProcessOf.tool h around d test (checked_none _ _ n ok)
@@ -196,13 +196,13 @@ at_bottom : (find : Finds) (room : ℕ) (h : Home) (around : Asked) (d : Data) (
 at_bottom find room h around d n fault true test ok = absurd (not_ok fault n ok)
 at_bottom find room h around d n fault false test ok = IsProcessOf.tool h around d test (checked_none _ _ n ok)
 
-all_built : (find : Finds) (levels room : ℕ) (h : Home) (around : Asked) (d : Data) (n : ℕ) → AllAreProcesses find → IsProcess d → left find levels room h d ≡ Ok n
+all_built : (find : Finds) (levels room : ℕ) (h : Home) (around : Asked) (d : Data) (n : ℕ) → AllAreProcesses find → IsProcess d → left (target find) levels room h d ≡ Ok n
     → IsProcessOf find h around d (linked find levels h around d)
 unfolding left linked
-all_built find levels zero h around d n all is ok = absurd (not_ok _ n (sym (no_room find levels h d) ∙ ok))
+all_built find levels zero h around d n all is ok = absurd (not_ok _ n (sym (no_room (target find) levels h d) ∙ ok))
 all_built find zero (suc room) h around d n all is ok = at_bottom find room h around d n _ (is_workflow d) refl ok
 all_built find (suc levels) (suc room) h around d n all is ok =
-    at_level find (left find levels) (linked find levels) room h around d n (is_workflow d) all
+    at_level find (left (target find) levels) (linked find levels) room h around d n (is_workflow d) all
     (λ room h asked d n is ok. all_built find levels room h asked d n all is ok) is refl ok
 
 -- ---- documents

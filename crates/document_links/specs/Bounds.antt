@@ -9,9 +9,8 @@ use Rattle.document_table.specs.Entries.{entries}
 use Rattle.document_table.specs.declared.form.Kind.TheVariants as kind
 use Rattle.cwl_process.specs.Processes.{is_workflow}
 use Rattle.document_links.specs.Homes.{Home}
-use Rattle.document_links.specs.Library.{Finds}
 use Rattle.document_links.specs.Defaults.{defaults_fault}
-use Rattle.document_links.specs.Targets.{Target, target}
+use Rattle.document_links.specs.Targets.{Leads, Target}
 use Rattle.document_links.specs.Walks.{Left, checked, elsewhere, then_left, within}
 use Rattle.document_links.specs.declared.fault.LinkFault.TheVariants.{TooDeep, TooMany}
 use Rattle.document_links.specs.declared.walk.WalkFault.TheVariants.{Other}
@@ -21,33 +20,33 @@ at_target (Ok t) next = elsewhere t.0.url t.1.index (next t.0 t.1.process)
 at_target (Err fault) next = Err fault
 
 -- a process: `inner` says it of those inside
-abbrev pub run_left : (ℕ → Home → Data → Left) → Finds → ℕ → Home → Data → Left
-run_left inner find room h d = option_map_or (λ name. at_target (target find h name) (inner room)) (as_str d) (inner room h d)
+abbrev pub run_left : (ℕ → Home → Data → Left) → Leads → ℕ → Home → Data → Left
+run_left inner leads room h d = option_map_or (λ name. at_target (leads h name) (inner room)) (as_str d) (inner room h d)
 
 -- the defaults of the step's inputs, and then what it runs
-abbrev pub step_left : (ℕ → Home → Data → Left) → Finds → ℕ → Home → Data → Left
-step_left inner find room h d =
+abbrev pub step_left : (ℕ → Home → Data → Left) → Leads → ℕ → Home → Data → Left
+step_left inner leads room h d =
     checked (defaults_fault h.url kind.StepInput (codes "in") d)
-    (within (codes "run") (option_map_or (run_left inner find room h) (get (codes "run") d) (Ok room)))
+    (within (codes "run") (option_map_or (run_left inner leads room h) (get (codes "run") d) (Ok room)))
 
-abbrev pub steps_left : (ℕ → Home → Data → Left) → Finds → ℕ → Home → List (List ℕ × Data) → Left
-steps_left inner find room h [] = Ok room
-steps_left inner find room h (e ∷ es) = then_left (within e.0 (step_left inner find room h e.1)) (λ n. steps_left inner find n h es)
+abbrev pub steps_left : (ℕ → Home → Data → Left) → Leads → ℕ → Home → List (List ℕ × Data) → Left
+steps_left inner leads room h [] = Ok room
+steps_left inner leads room h (e ∷ es) = then_left (within e.0 (step_left inner leads room h e.1)) (λ n. steps_left inner leads n h es)
 
-abbrev pub workflow_left : (ℕ → Home → Data → Left) → Finds → ℕ → Home → Data → Left
-workflow_left inner find room h d =
+abbrev pub workflow_left : (ℕ → Home → Data → Left) → Leads → ℕ → Home → Data → Left
+workflow_left inner leads room h d =
     checked (defaults_fault h.url kind.WorkflowInput (codes "inputs") d)
-    (within (codes "steps") (option_map_or (λ v. steps_left inner find room h (entries kind.Step v)) (get (codes "steps") d) (Ok room)))
+    (within (codes "steps") (option_map_or (λ v. steps_left inner leads room h (entries kind.Step v)) (get (codes "steps") d) (Ok room)))
 
 abbrev pub tool_left : ℕ → Home → Data → Left
 tool_left room h d = checked (defaults_fault h.url kind.ToolInput (codes "inputs") d) (Ok room)
 
 -- Where there is no `inner`, no workflow may be.
-abbrev pub process_left : Option (ℕ → Home → Data → Left) → Finds → ℕ → Home → Data → Left
-process_left inner find zero h d = Err (Other TooMany)
-process_left inner find (suc room) h d =
-    if is_workflow d then option_map_or (λ f. workflow_left f find room h d) inner (Err (Other TooDeep)) else tool_left room h d
+abbrev pub process_left : Option (ℕ → Home → Data → Left) → Leads → ℕ → Home → Data → Left
+process_left inner leads zero h d = Err (Other TooMany)
+process_left inner leads (suc room) h d =
+    if is_workflow d then option_map_or (λ f. workflow_left f leads room h d) inner (Err (Other TooDeep)) else tool_left room h d
 
-unfoldable pub left : Finds → ℕ → ℕ → Home → Data → Left
-left find zero room h d = process_left None find room h d
-left find (suc levels) room h d = process_left (Some (left find levels)) find room h d
+unfoldable pub left : Leads → ℕ → ℕ → Home → Data → Left
+left leads zero room h d = process_left None leads room h d
+left leads (suc levels) room h d = process_left (Some (left leads levels)) leads room h d

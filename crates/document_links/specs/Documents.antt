@@ -11,7 +11,8 @@ use Rattle.document_links.specs.Bounds.{left}
 use Rattle.document_links.specs.Homes.{home}
 use Rattle.document_links.specs.Library.{Documents, Finds, IsLookUp}
 use Rattle.document_links.specs.Linked.{linked}
-use Rattle.document_links.specs.Names.{anything, document_urls, each_once}
+use Rattle.document_links.specs.Names.{alone, document_urls, each_once}
+use Rattle.document_links.specs.Targets.{Leads, target}
 use Rattle.document_links.specs.Urls.{url_text}
 use Rattle.document_links.specs.Walks.{Left, told_of}
 use Rattle.document_links.specs.declared.bounds.TheConstants.{MOST_PROCESSES, MOST_WORKFLOWS}
@@ -25,9 +26,13 @@ abbrev pub told_left : Parts → Option ℕ → Left → Result ℕ LinkFault
 told_left base index (Ok n) = Ok n
 told_left base index (Err fault) = Err (told_of base index fault)
 
--- all that the document leads to: room for it, or what is wrong first
+-- all that the document comes to, if that is what names lead to: room for it, or what is wrong first
+abbrev pub bounded_by : Leads → Parts → Data → Result ℕ LinkFault
+bounded_by leads base d = told_left base (root_of d).index (left leads MOST_WORKFLOWS MOST_PROCESSES (home base d) (root_of d).process)
+
+-- the same, if names lead to the documents that are found
 abbrev pub bounded : Finds → Parts → Data → Result ℕ LinkFault
-bounded find base d = told_left base (root_of d).index (left find MOST_WORKFLOWS MOST_PROCESSES (home base d) (root_of d).process)
+bounded find base d = bounded_by (target find) base d
 
 -- What the document of that JSON names is there and is within the bounds, and together they are that process.
 abbrev pub IsTogether : Data → Parts → Documents → Process → Type 0
@@ -59,12 +64,13 @@ IsRefused OutOfMemory bytes base docs = ⊤
 
 -- ---- which documents are needed
 
--- The bytes are a document without a fault, nothing is wrong with it whatever it names, and it names these.
+-- The bytes are a document without a fault, nothing is wrong with it whatever its names lead to, and it names these documents. A name of an item that isn't
+-- there gives none, and is no fault.
 abbrev pub IsNeeded : List ℕ → Parts → List (List ℕ) → Type 0
 IsNeeded bytes base urls =
-    (d : Data) × one.IsSound bytes d × ((n : ℕ) × (bounded anything base d ≡ Ok n)) × (urls ≡ each_once (document_urls base d))
+    (d : Data) × one.IsSound bytes d × ((n : ℕ) × (bounded_by alone base d ≡ Ok n)) × (urls ≡ each_once (document_urls base d))
 
--- The document has that fault first; or it has none, and that is the first whatever it names.
+-- The document has that fault first; or it has none, and that is the first whatever its names lead to.
 abbrev pub IsNotNeeding : LinkError → List ℕ → Parts → Type 0
-IsNotNeeding (Refused fault) bytes base = IsOwnError (Refused fault) bytes base ⊎ ((d : Data) × one.IsSound bytes d × (bounded anything base d ≡ Err fault))
+IsNotNeeding (Refused fault) bytes base = IsOwnError (Refused fault) bytes base ⊎ ((d : Data) × one.IsSound bytes d × (bounded_by alone base d ≡ Err fault))
 IsNotNeeding OutOfMemory bytes base = ⊤

@@ -1,6 +1,6 @@
 -- The documents that a document names (CWL v1.2, Workflow Description, "WorkflowStep", `run`): their URLs, in the order of its steps and
 -- those of the workflows inside it, each once; those of the items that they name are among them.
-use Rattle.std.specs.Prelude.{ℕ, zero, suc, List, [], ◌∷◌, ◌++◌, Bool, Option, Some, Ok, flat_map, bytes_eq, if◌then◌else◌, codes}
+use Rattle.std.specs.Prelude.{ℕ, zero, suc, List, [], ◌∷◌, ◌++◌, Bool, Option, flat_map, bytes_eq, if◌then◌else◌, codes}
 use Rattle.std.specs.List.{list_any}
 use Rattle.std.specs.Option.{option_map_or}
 use Rattle.serde_json.specs.Data.{Data, null}
@@ -12,7 +12,7 @@ use Rattle.document_table.specs.declared.form.Kind.TheVariants as kind
 use Rattle.cwl_process.specs.Processes.{is_workflow}
 use Rattle.url.specs.Parts.{Parts}
 use Rattle.document_links.specs.Homes.{Home, home}
-use Rattle.document_links.specs.Library.{Finds}
+use Rattle.document_links.specs.Targets.{Leads, stands_in}
 use Rattle.document_links.specs.Urls.{joined, url_text}
 use Rattle.document_links.specs.declared.bounds.TheConstants.{MOST_WORKFLOWS}
 
@@ -64,6 +64,6 @@ each_once urls = added [] urls
 
 -- ---- documents that are not there yet
 
--- At each URL is something that has no steps and no defaults.
-abbrev pub anything : Finds
-anything url = Some (Ok null)
+-- what each name leads to, if something without steps and defaults stands in for every other document, and for every item that isn't there
+abbrev pub alone : Leads
+alone = stands_in null

@@ -14,9 +14,11 @@ use Rattle.document_table.specs.declared.fault.DocumentFault.{DocumentFault}
 use Rattle.cwl_process.specs.Documents.{item_fault}
 use Rattle.url.specs.Parts.{Parts}
 use Rattle.document_links.specs.Homes.{Home, home}
-use Rattle.document_links.specs.Library.{Finds, Found}
+use Rattle.document_links.specs.Library.{Finds, Found, finds_in}
 use Rattle.document_links.specs.Urls.{joined, url_text}
 use Rattle.document_links.specs.declared.fault.LinkFault.TheVariants.{Document, NoItem, NotLoaded}
+use Rattle.document_links.specs.declared.library.Library.{Library}
+use Rattle.document_links.specs.declared.library.Library.TheVariants.{Any, Read}
 use Rattle.document_links.specs.declared.target.Target as code
 use Rattle.document_links.specs.declared.target.Target.TheVariants.{Here, There}
 use Rattle.document_links.specs.declared.walk.WalkFault.{WalkFault}
@@ -25,6 +27,10 @@ use Rattle.document_links.specs.declared.walk.WalkFault.TheVariants.{Own, Other}
 -- a document, and the process in it
 abbrev pub Target : Type 0
 Target = Result (Home × Placed) WalkFault
+
+-- what a name leads to, by the document that it is in
+abbrev pub Leads : Type 0
+Leads = Home → List ℕ → Target
 
 -- ---- items
 
@@ -52,6 +58,17 @@ document_at find base name = option_map_or (found_at find) (joined base name) (E
 unfoldable pub target : Finds → Home → List ℕ → Target
 target find h name = if has_hash name then item_at h name (item_named name h.document) else document_at find h.url name
 
+-- ---- stand-ins
+
+-- an item, or if there is none the document that stands in for it
+abbrev pub item_else : Data → Home → Option Placed → Target
+item_else d h None = Ok (h, root_of d)
+item_else d h (Some p) = item_or h p (item_fault p)
+
+-- Nothing is missing: that document stands in for the one at each URL, and for each item that its document does not have.
+unfoldable pub stands_in : Data → Leads
+stands_in d h name = if has_hash name then item_else d h (item_named name h.document) else document_at (λ url. Some (Ok d)) h.url name
+
 -- ---- what a step runs
 
 -- a process, and the document that it is in
@@ -65,6 +82,15 @@ led_by (Err fault) = None
 -- the object in its place, or what its name leads to, if that is there and has no fault of its own
 abbrev pub run_of : Finds → Home → Data → Option Run
 run_of find h d = option_map_or (λ name. led_by (target find h name)) (as_str d) (Some (h, d))
+
+-- ---- as the code has it
+
+abbrev pub item_in : Library → Home → List ℕ → Option Placed → Target
+item_in (Read readings) h name o = item_at h name o
+item_in (Any v) h name o = item_else (view v.json) h o
+
+unfoldable pub leads_in : Library → Leads
+leads_in library h name = if has_hash name then item_in library h name (item_named name h.document) else document_at (finds_in library) h.url name
 
 -- one that the code has, of a step in that document
 abbrev pub run_seen : Home → code.Target → Run

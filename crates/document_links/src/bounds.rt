@@ -7,14 +7,14 @@ ghost use Rattle.document_links.specs.Defaults.{defaults_fault};
 ghost use Rattle.document_links.specs.Homes.{home_seen};
 ghost use Rattle.document_links.specs.Library.{finds_in};
 ghost use Rattle.document_links.specs.Refused.{IsOwnFaultOf, IsWalkErrorOf};
-ghost use Rattle.document_links.specs.Targets.{document_at, item_at};
+ghost use Rattle.document_links.specs.Targets.{document_at, item_in, leads_in};
 ghost use Rattle.document_table.specs.Packed.{item_named};
 
 use crate::defaults::defaults_fault;
 use crate::fault::LinkFault;
 use crate::home::Home;
 use crate::library::Library;
-use crate::target::{document_at, item_at};
+use crate::target::{document_at, item_in};
 use crate::walk::{WalkError, WalkFault, elsewhere, within};
 use cwl_process::is_workflow;
 use document_table::{Kind, entries, has_hash};
@@ -40,11 +40,11 @@ pub(crate) fn left(
     value: &Value,
 ) -> Result<usize, WalkError>
     ensures ok { IfOk result
-        (λ n. left (finds_in library.now) levels room (home_seen home.entry) (view value.now)
+        (λ n. left (leads_in library.now) levels room (home_seen home.entry) (view value.now)
         ≡ Ok n) }
     ensures err { IfErr result
         (IsWalkErrorOf
-        (left (finds_in library.now) levels room (home_seen home.entry) (view value.now))) }
+        (left (leads_in library.now) levels room (home_seen home.entry) (view value.now))) }
 {
     if room == 0 {
         return Err(WalkError::Refused(WalkFault::Other(LinkFault::TooMany)));
@@ -68,10 +68,10 @@ fn workflow_left(
     home: Home<'_>,
     value: &Value,
 ) -> Result<usize, WalkError>
-    ensures ok { IfOk result (λ n. workflow_left (left (finds_in library.now) levels)
-        (finds_in library.now) room (home_seen home.entry) (view value.now) ≡ Ok n) }
-    ensures err { IfErr result (IsWalkErrorOf (workflow_left (left (finds_in library.now) levels)
-        (finds_in library.now) room (home_seen home.entry) (view value.now))) }
+    ensures ok { IfOk result (λ n. workflow_left (left (leads_in library.now) levels)
+        (leads_in library.now) room (home_seen home.entry) (view value.now) ≡ Ok n) }
+    ensures err { IfErr result (IsWalkErrorOf (workflow_left (left (leads_in library.now) levels)
+        (leads_in library.now) room (home_seen home.entry) (view value.now))) }
 {
     check_defaults(alloc, home.url, Kind::WorkflowInput, "inputs", value)?;
     let Some(found) = value.get("steps") else {
@@ -91,10 +91,10 @@ fn steps_left(
     home: Home<'_>,
     all: &[(&str, &Value)],
 ) -> Result<usize, WalkError>
-    ensures ok { IfOk result (λ n. steps_left (left (finds_in library.now) levels)
-        (finds_in library.now) room (home_seen home.entry) (map entry_seen all.now) ≡ Ok n) }
-    ensures err { IfErr result (IsWalkErrorOf (steps_left (left (finds_in library.now) levels)
-        (finds_in library.now) room (home_seen home.entry) (map entry_seen all.now))) }
+    ensures ok { IfOk result (λ n. steps_left (left (leads_in library.now) levels)
+        (leads_in library.now) room (home_seen home.entry) (map entry_seen all.now) ≡ Ok n) }
+    ensures err { IfErr result (IsWalkErrorOf (steps_left (left (leads_in library.now) levels)
+        (leads_in library.now) room (home_seen home.entry) (map entry_seen all.now))) }
 {
     let mut still = room;
     for entry in all {
@@ -113,10 +113,10 @@ fn step_left(
     home: Home<'_>,
     value: &Value,
 ) -> Result<usize, WalkError>
-    ensures ok { IfOk result (λ n. step_left (left (finds_in library.now) levels)
-        (finds_in library.now) room (home_seen home.entry) (view value.now) ≡ Ok n) }
-    ensures err { IfErr result (IsWalkErrorOf (step_left (left (finds_in library.now) levels)
-        (finds_in library.now) room (home_seen home.entry) (view value.now))) }
+    ensures ok { IfOk result (λ n. step_left (left (leads_in library.now) levels)
+        (leads_in library.now) room (home_seen home.entry) (view value.now) ≡ Ok n) }
+    ensures err { IfErr result (IsWalkErrorOf (step_left (left (leads_in library.now) levels)
+        (leads_in library.now) room (home_seen home.entry) (view value.now))) }
 {
     check_defaults(alloc, home.url, Kind::StepInput, "in", value)?;
     let Some(found) = value.get("run") else {
@@ -127,7 +127,7 @@ fn step_left(
 }
 
 #[cycle(bounds)]
-#[tactic(auto, unfolding(crate::specs::Targets::target))]
+#[tactic(auto, unfolding(crate::specs::Targets::leads_in))]
 fn run_left(
     alloc: Global,
     library: &Library,
@@ -136,10 +136,10 @@ fn run_left(
     home: Home<'_>,
     value: &Value,
 ) -> Result<usize, WalkError>
-    ensures ok { IfOk result (λ n. run_left (left (finds_in library.now) levels)
-        (finds_in library.now) room (home_seen home.entry) (view value.now) ≡ Ok n) }
-    ensures err { IfErr result (IsWalkErrorOf (run_left (left (finds_in library.now) levels)
-        (finds_in library.now) room (home_seen home.entry) (view value.now))) }
+    ensures ok { IfOk result (λ n. run_left (left (leads_in library.now) levels)
+        (leads_in library.now) room (home_seen home.entry) (view value.now) ≡ Ok n) }
+    ensures err { IfErr result (IsWalkErrorOf (run_left (left (leads_in library.now) levels)
+        (leads_in library.now) room (home_seen home.entry) (view value.now))) }
 {
     let Some(name) = value.as_str() else {
         return left(alloc, library, levels, room, home, value);
@@ -160,14 +160,16 @@ fn item_left(
     home: Home<'_>,
     name: &str,
 ) -> Result<usize, WalkError>
-    ensures ok { IfOk result (λ n. at_target (item_at (home_seen home.entry) name.now
+    ensures ok { IfOk result (λ n. at_target
+        (item_in library.now (home_seen home.entry) name.now
         (item_named name.now (view home.entry.document.now.json)))
-        (left (finds_in library.now) levels room) ≡ Ok n) }
-    ensures err { IfErr result (IsWalkErrorOf (at_target (item_at (home_seen home.entry) name.now
+        (left (leads_in library.now) levels room) ≡ Ok n) }
+    ensures err { IfErr result (IsWalkErrorOf (at_target
+        (item_in library.now (home_seen home.entry) name.now
         (item_named name.now (view home.entry.document.now.json)))
-        (left (finds_in library.now) levels room))) }
+        (left (leads_in library.now) levels room))) }
 {
-    let item = item_at(alloc, home, name)?;
+    let item = item_in(alloc, library, home, name)?;
     let left = left(alloc, library, levels, room, home, item.process);
     elsewhere(alloc, home.url, item.index, left)
 }
@@ -184,10 +186,10 @@ fn document_left(
 ) -> Result<usize, WalkError>
     ensures ok { IfOk result (λ n. at_target
         (document_at (finds_in library.now) home.entry.url.now name.now)
-        (left (finds_in library.now) levels room) ≡ Ok n) }
+        (left (leads_in library.now) levels room) ≡ Ok n) }
     ensures err { IfErr result (IsWalkErrorOf (at_target
         (document_at (finds_in library.now) home.entry.url.now name.now)
-        (left (finds_in library.now) levels room))) }
+        (left (leads_in library.now) levels room))) }
 {
     let (url, document) = document_at(alloc, library, home.url, name)?;
     let root = document.root();

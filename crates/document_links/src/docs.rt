@@ -1,6 +1,7 @@
 //! Documents by their URLs.
 ghost use Rattle.std.specs.Prelude.{◌≡◌, length, IfOk};
 ghost use Rattle.document_links.specs.Library.{IsLookUp, finds_in};
+ghost use Rattle.document_links.specs.Targets.{leads_in, target};
 ghost use Rattle.document_links.specs.inner.Sound.{AllProcesses};
 
 use crate::document::Document;
@@ -17,7 +18,7 @@ pub struct Docs {
 }
 
 impl Model for Docs {
-    ghost use Rattle.std.specs.Prelude.{List, ℕ};
+    ghost use Rattle.std.specs.Prelude.{◌≡◌, List, ℕ};
     ghost use Rattle.std.specs.Coded.{coded_list, coded×, coded_ℕ};
 
     ghost Value = { List (List ℕ × List ℕ) };
@@ -25,12 +26,14 @@ impl Model for Docs {
     ghost coded = { coded_list (coded× (coded_list coded_ℕ) (coded_list coded_ℕ)) };
 
     ghost use Rattle.document_links.specs.Library.{IsLookUp, finds_in};
+    ghost use Rattle.document_links.specs.Targets.{leads_in, target};
     ghost use Rattle.document_links.specs.inner.Sound.{AllProcesses};
 
     ghost view = { λ fields. fields.bytes };
 
     ghost invariant = { λ fields. IsLookUp fields.bytes (finds_in fields.library)
-        × AllProcesses fields.library };
+        × AllProcesses fields.library
+        × (leads_in fields.library ≡ target (finds_in fields.library)) };
 }
 
 impl Docs {
@@ -69,6 +72,7 @@ impl Docs {
     pub(crate) fn library(&self) -> &Library
         ensures read { IsLookUp self.now (finds_in result.now) }
         ensures processes { AllProcesses result.now }
+        ensures leads { leads_in result.now ≡ target (finds_in result.now) }
     {
         &self.library
     }

@@ -7,13 +7,13 @@ ghost use Rattle.cwl_process.specs.Acting.{nothing_asked};
 ghost use Rattle.cwl_process.specs.declared.tool.Asked.{Asked};
 ghost use Rattle.url.specs.Parts.{Parts};
 ghost use Rattle.document_links.specs.Absent.{LacksItem, NamesAbsent};
-ghost use Rattle.document_links.specs.Documents.{IsLinked, IsNeeded, IsRefused, bounded};
+ghost use Rattle.document_links.specs.Documents.{IsLinked, IsNeeded, IsNotNeeding, IsRefused, bounded, bounded_by};
 ghost use Rattle.document_links.specs.Homes.{Home, home};
 ghost use Rattle.document_links.specs.declared.bounds.TheConstants.{MOST_PROCESSES, MOST_WORKFLOWS};
 ghost use Rattle.document_links.specs.LeadsTo.{Lacks, LeadsTo};
 ghost use Rattle.document_links.specs.Library.{Documents, Finds};
 ghost use Rattle.document_links.specs.Linked.{linked};
-ghost use Rattle.document_links.specs.Names.{anything};
+ghost use Rattle.document_links.specs.Names.{alone};
 ghost use Rattle.document_links.specs.ProcessOf.{AllAreProcesses, IsItsProcess, IsProcessOf};
 ghost use Rattle.document_links.specs.declared.bounds.TheConstants.{MOST_WORKFLOWS};
 ghost use Rattle.document_links.specs.declared.fault.LinkError.TheVariants.{Refused};
@@ -68,9 +68,17 @@ pub fn only_items_that_steps_name_are_missing()
 /// What `read_process` takes, `needed_docs` takes.
 pub fn what_is_linked_needs_documents()
     ensures walked { (find : Finds) (base : Parts) (d : Data) (n : ℕ) → bounded find base d ≡ Ok n
-        → (m : ℕ) × (bounded anything base d ≡ Ok m) }
+        → (m : ℕ) × (bounded_by alone base d ≡ Ok m) }
     ensures read { (bytes : List ℕ) (base : Parts) (docs : Documents) (process : Process)
         → IsLinked bytes base docs process → (urls : List (List ℕ)) × IsNeeded bytes base urls }
+{}
+
+/// `needed_docs` never refuses with C10: neither a document nor an item is missing for it.
+pub fn nothing_is_missing_for_needed_documents()
+    ensures document { (bytes : List ℕ) (base : Parts) (url : List ℕ)
+        → IsNotNeeding (Refused (NotLoaded url)) bytes base → ⊥ }
+    ensures item { (bytes : List ℕ) (base : Parts) (id : List ℕ)
+        → IsNotNeeding (Refused (NoItem id)) bytes base → ⊥ }
 {}
 
 /// At most 16 workflows are inside one another, and a document comes to at most 4,096 processes.

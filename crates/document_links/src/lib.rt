@@ -3,6 +3,8 @@
 //! `read_process` gives exactly the process that the document at a base URL represents (`specs/Linked.antt`): what a step names is
 //! read from the document of that URL, with that document's own base, or where its name begins with `#` from an item of the same
 //! document, and takes on what the step and the workflows around it ask. What comes to over 16 workflows inside one another or over 4,096 processes is refused before any of it is built.
+//!
+//! `needed_docs` gives the URLs of the documents that a document names. It is refused as `read_process` is, but never with C10: what isn't there is left out.
 #![tactic(auto)]
 
 mod bounds;
@@ -28,9 +30,10 @@ pub use document::Document;
 pub use fault::{LinkError, LinkFault};
 pub use home::Home;
 pub use laws::{
-    a_document_has_one_process, only_bounds_refuse_a_process,
-    only_items_that_steps_name_are_missing, only_what_is_named_is_missing, processes_are_limited,
-    what_is_linked_is_the_process, what_is_linked_needs_documents,
+    a_document_has_one_process, nothing_is_missing_for_needed_documents,
+    only_bounds_refuse_a_process, only_items_that_steps_name_are_missing,
+    only_what_is_named_is_missing, processes_are_limited, what_is_linked_is_the_process,
+    what_is_linked_needs_documents,
 };
 pub use library::Library;
 pub use process::{Process, Step, Workflow};

@@ -21,7 +21,7 @@ pub enum Reading {
 pub enum Library {
     /// What each of them reads as.
     Read(Keyed<Reading>),
-    /// This document is at every URL.
+    /// This document is at every URL, and for `needed_docs` in the place of each item that isn't there.
     Any(Indexed),
 }
 

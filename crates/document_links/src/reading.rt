@@ -4,10 +4,10 @@ ghost use Rattle.serde_json.specs.View.{view};
 ghost use Rattle.document_table.specs.Entries.{IsProcess};
 ghost use Rattle.document_table.specs.Packed.{root_of};
 ghost use Rattle.cwl_process.specs.Documents as one;
-ghost use Rattle.document_links.specs.Documents.{IsApart, IsErrorOf, IsLinked, IsNeeded, IsNotNeeding, IsOwnError, IsRefused, IsTogether, bounded};
-ghost use Rattle.document_links.specs.Library.{finds_in};
-ghost use Rattle.document_links.specs.Names.{anything};
+ghost use Rattle.document_links.specs.Documents.{IsApart, IsErrorOf, IsLinked, IsNeeded, IsNotNeeding, IsOwnError, IsRefused, IsTogether, bounded_by};
+ghost use Rattle.document_links.specs.Names.{alone};
 ghost use Rattle.document_links.specs.ProcessOf.{IsItsProcess};
+ghost use Rattle.document_links.specs.Targets.{leads_in};
 
 use crate::bounds::{MOST_PROCESSES, MOST_WORKFLOWS, left};
 use crate::docs::Docs;
@@ -49,8 +49,8 @@ pub fn read_process(
 
 /// The URLs of the documents that a document names, in the order of its steps, each once.
 ///
-/// It refuses what `read_process` refuses whatever the other documents are: C1 to C8 of the document itself, C10 where a step names an item
-/// that isn't there, and C9 where a document in the place of each name already makes too many.
+/// It refuses what `read_process` refuses whatever the other documents are: C1 to C8 of the document itself, and C9 if a process in the place of
+/// each name already makes too many. It never refuses with C10: a name of an item that isn't there gives no URL.
 pub fn needed_docs(alloc: Global, document: &Document, base: &Url) -> Result<Items<Text>, LinkError>
     ensures ok { IfOk result (λ urls. IsNeeded document.now base.now urls) }
     ensures err { IfErr result (λ e. IsNotNeeding e document.now base.now) }
@@ -89,11 +89,11 @@ fn together(
     )?)
 }
 
-/// Checks the document with something empty in the place of each that it names.
+/// Checks the document with something empty in the place of each other one, and of each item that isn't there.
 fn check_alone(alloc: Global, base: &Url, document: &Indexed) -> Result<(), LinkError>
     ensures ok { IfOk result
-        (λ _. (n : ℕ) × (bounded anything base.now (view document.now.json) ≡ Ok n)) }
-    ensures err { IfErr result (IsErrorOf (bounded anything base.now (view document.now.json))) }
+        (λ _. (n : ℕ) × (bounded_by alone base.now (view document.now.json) ≡ Ok n)) }
+    ensures err { IfErr result (IsErrorOf (bounded_by alone base.now (view document.now.json))) }
 {
     let library = Library::Any(Indexed::of(alloc, Value::Null)?);
     check_bounds(alloc, &library, base, document)
@@ -107,9 +107,9 @@ fn check_bounds(
     document: &Indexed,
 ) -> Result<(), LinkError>
     ensures ok { IfOk result (λ _. (n : ℕ)
-        × (bounded (finds_in library.now) base.now (view document.now.json) ≡ Ok n)) }
+        × (bounded_by (leads_in library.now) base.now (view document.now.json) ≡ Ok n)) }
     ensures err { IfErr result
-        (IsErrorOf (bounded (finds_in library.now) base.now (view document.now.json))) }
+        (IsErrorOf (bounded_by (leads_in library.now) base.now (view document.now.json))) }
 {
     let home = Home {
         url: base,

@@ -6,7 +6,7 @@ ghost use Rattle.cwl_process.specs.Documents.{item_fault};
 ghost use Rattle.document_links.specs.Library.{finds_among, finds_in};
 ghost use Rattle.document_links.specs.Refused.{IsWalkErrorOf};
 ghost use Rattle.document_links.specs.Homes.{home, home_seen};
-ghost use Rattle.document_links.specs.Targets.{document_at, found_at, item_at, item_or, led_by, run_of, run_seen, target};
+ghost use Rattle.document_links.specs.Targets.{document_at, found_at, item_at, item_else, item_in, item_or, led_by, run_of, run_seen, target};
 ghost use Rattle.document_table.specs.Packed.{item_named, placed_seen, root_of};
 ghost use Rattle.document_links.specs.inner.Sound.{AllProcesses, AllSound};
 
@@ -94,6 +94,47 @@ pub(crate) fn item_at<'d>(
         }
         Some(item) => sound_item(alloc, home, item),
     }
+}
+
+/// The item of that name. If it isn't there, the document that is at every URL stands in for it.
+pub(crate) fn item_in<'d>(
+    alloc: Global,
+    library: &'d Library,
+    home: Home<'d>,
+    name: &str,
+) -> Result<Placed<'d>, WalkError>
+    ensures ok { IfOk result (λ item.
+        item_in library.now (home_seen home.entry) name.now
+        (item_named name.now (view home.entry.document.now.json))
+        ≡ Ok (home_seen home.entry, placed_seen item)) }
+    ensures err { IfErr result (IsWalkErrorOf
+        (item_in library.now (home_seen home.entry) name.now
+        (item_named name.now (view home.entry.document.now.json)))) }
+{
+    match library {
+        Library::Any(document) => item_else(alloc, document, home, name),
+        Library::Read(_) => item_at(alloc, home, name),
+    }
+}
+
+fn item_else<'d>(
+    alloc: Global,
+    other: &'d Indexed,
+    home: Home<'d>,
+    name: &str,
+) -> Result<Placed<'d>, WalkError>
+    ensures ok { IfOk result (λ item.
+        item_else (view other.now.json) (home_seen home.entry)
+        (item_named name.now (view home.entry.document.now.json))
+        ≡ Ok (home_seen home.entry, placed_seen item)) }
+    ensures err { IfErr result (IsWalkErrorOf
+        (item_else (view other.now.json) (home_seen home.entry)
+        (item_named name.now (view home.entry.document.now.json)))) }
+{
+    let Some(item) = home.document.item(name) else {
+        return Ok(other.root());
+    };
+    sound_item(alloc, home, item)
 }
 
 fn sound_item<'d>(alloc: Global, home: Home<'d>, item: Placed<'d>) -> Result<Placed<'d>, WalkError>

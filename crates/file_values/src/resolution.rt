@@ -13,7 +13,7 @@ use crate::location::{location_to_path, path_on};
 use crate::names::last_component;
 use crate::refusal::{FileError, FileFault};
 use cwl_value::{DirVal, FileVal, Place, Value};
-use plain_data::{Items, Keyed, Text};
+use plain_data::{Items, Keyed, Text, copied_if_any};
 use std::alloc::{AllocError, Global};
 use url::Url;
 
@@ -157,8 +157,8 @@ fn texts_of(alloc: Global, file: &FileVal) -> Result<(Option<Text>, Option<Text>
     ensures { IfOk result (λ texts. texts
         ≡ ((out-FileVal file.now).checksum, (out-FileVal file.now).contents)) }
 {
-    let checksum = copy_if_any(alloc, &file.checksum)?;
-    Ok((checksum, copy_if_any(alloc, &file.contents)?))
+    let checksum = copied_if_any(alloc, &file.checksum)?;
+    Ok((checksum, copied_if_any(alloc, &file.contents)?))
 }
 
 // A location as the path that it names, and a path joined to the base's folder.
@@ -224,13 +224,4 @@ fn has_slash(name: &str) -> bool
     ensures { result ≡ list_any (λ c. c == 47) name.now }
 {
     name.as_bytes().iter().any(|byte| *byte == b'/')
-}
-
-fn copy_if_any(alloc: Global, text: &Option<Text>) -> Result<Option<Text>, AllocError>
-    ensures { IfOk result (λ copy. copy ≡ text.now) }
-{
-    match text {
-        None => Ok(None),
-        Some(text) => Ok(Some(text.copied(alloc)?)),
-    }
 }

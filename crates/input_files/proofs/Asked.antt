@@ -17,7 +17,7 @@ use Rattle.input_files.specs.Given.{Name, Fields, NamedInput, files_in}
 use Rattle.input_files.specs.Inputs.{or_else}
 use Rattle.input_files.specs.Laws.{asks, IsShortText, IsRead, AreRead, ContentsAreThoseAsked, NothingIsReadUnasked}
 use Rattle.input_files.specs.Paths.{each_once}
-use Rattle.input_files.specs.declared.contents.TheConstants.{MOST_CONTENTS}
+use Rattle.cwl_value.specs.declared.value.TheConstants.{MOST_CONTENTS}
 use Rattle.input_files.specs.declared.fault.ContentsFault.{ContentsFault}
 use Rattle.input_files.specs.declared.fault.ContentsFault.TheVariants as fault
 use Rattle.input_files.proofs.Once.{names_kept}

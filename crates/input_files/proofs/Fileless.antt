@@ -9,7 +9,7 @@ use Rattle.cwl_value.proofs.WithoutFiles.{held_dir, held_fields, held_file, held
 use Rattle.cwl_value.specs.declared.value.Value.{Value, out-Value, the_lemmas}
 use Rattle.cwl_value.specs.declared.value.Value as value
 use Rattle.cwl_value.specs.declared.value.FileVal.{FileVal}
-use Rattle.staging.proofs.Fileless.{Descends, fileless_stays}
+use Rattle.cwl_value.proofs.Unmoved.{Descends, fileless_stays}
 use Rattle.input_files.specs.Given.{Fields, files_in, files_among, own_file, with_file, with_files}
 use Rattle.input_files.specs.Beside.{file_beside}
 use Rattle.input_files.specs.Laws.{UntouchedWithoutFiles}

@@ -13,7 +13,7 @@ use Rattle.input_files.specs.Inputs.{or_else}
 use Rattle.input_files.specs.Paths.{Paths, own_path, each_once}
 use Rattle.input_files.specs.declared.fault.ContentsFault.{ContentsFault}
 use Rattle.input_files.specs.declared.fault.ContentsFault.TheVariants as fault
-use Rattle.input_files.specs.declared.contents.TheConstants.{MOST_CONTENTS}
+use Rattle.cwl_value.specs.declared.value.TheConstants.{MOST_CONTENTS}
 
 -- the first bytes of files, by path
 abbrev pub Heads : Type 0

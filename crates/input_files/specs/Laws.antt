@@ -21,7 +21,7 @@ use Rattle.input_files.specs.Listing.{checksum_of}
 use Rattle.input_files.specs.Measured.{Measures, is_there, as_measured}
 use Rattle.input_files.specs.Paths.{Paths, paths_of, input_paths}
 use Rattle.input_files.specs.Present.{all_true, value_there, is_made, is_present}
-use Rattle.input_files.specs.declared.contents.TheConstants.{MOST_CONTENTS}
+use Rattle.cwl_value.specs.declared.value.TheConstants.{MOST_CONTENTS}
 
 -- Nothing is asked of a value without Files and Directories, and it stays as it is.
 

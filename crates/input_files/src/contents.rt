@@ -12,13 +12,10 @@ use crate::files::items_of;
 use crate::names::each_once;
 use crate::paths::push_own;
 use cwl_process::ToolInput;
-use cwl_value::{FileVal, Place, Value, items_by_value};
+use cwl_value::{FileVal, MOST_CONTENTS, Place, Value, items_by_value};
 use plain_data::{Items, Keyed, Text};
 use std::alloc::{AllocError, Global};
 use std::str;
-
-/// The most bytes that a file has whose contents are read (CWL v1.2, `loadContents`).
-pub const MOST_CONTENTS: u64 = 65_536;
 
 /// The paths of the files whose first bytes are read once the inputs are staged, by the order of the inputs' names:
 /// the Files of inputs that ask for contents, but for those that are too long.

@@ -28,7 +28,7 @@ mod present;
 mod taken;
 mod there;
 
-pub use contents::{MOST_CONTENTS, heads_wanted, with_contents};
+pub use contents::{heads_wanted, with_contents};
 pub use fault::{ContentsError, ContentsFault, InputError, InputFault};
 pub use inputs::inputs_for;
 pub use laws::{

@@ -8,7 +8,7 @@ use crate::listing::{checksum_of, values_below};
 use crate::present::are_present;
 use crate::there::measure_at;
 use cwl_value::{DirVal, FileVal, Place, Value};
-use plain_data::{Items, Keyed, Text};
+use plain_data::{Items, Keyed, Text, copied_if_any};
 use staging::Measure;
 use std::alloc::{AllocError, Global};
 
@@ -76,7 +76,7 @@ fn measured_dir(
     } else {
         None
     };
-    let basename = copy_if_any(alloc, &dir.basename)?;
+    let basename = copied_if_any(alloc, &dir.basename)?;
     Ok(DirVal {
         place: dir.place.clone_in(alloc)?,
         basename,
@@ -152,15 +152,6 @@ fn texts_of(alloc: Global, file: &FileVal) -> Result<(Option<Text>, Option<Text>
     ensures { IfOk result (λ texts. texts
         ≡ ((out-FileVal file.now).basename, (out-FileVal file.now).contents)) }
 {
-    let basename = copy_if_any(alloc, &file.basename)?;
-    Ok((basename, copy_if_any(alloc, &file.contents)?))
-}
-
-fn copy_if_any(alloc: Global, text: &Option<Text>) -> Result<Option<Text>, AllocError>
-    ensures { IfOk result (λ copy. copy ≡ text.now) }
-{
-    match text {
-        None => Ok(None),
-        Some(text) => Ok(Some(text.copied(alloc)?)),
-    }
+    let basename = copied_if_any(alloc, &file.basename)?;
+    Ok((basename, copied_if_any(alloc, &file.contents)?))
 }

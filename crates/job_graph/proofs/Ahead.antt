@@ -118,10 +118,3 @@ module _ (learned : List Resolved) (known : List Job) (met : List Met) (none : f
   -- it has where each known job has
   pub same_end : list_all (is_well (made_by learned)) met ≡ are_learned learned more
   same_end = same_truth (list_all (is_well (made_by learned)) met) (are_learned learned more) well_ended ended_well
-
--- the first part of "and", last
-pub and_turned : (a b : Bool) → (a && b) ≡ (b && a)
-and_turned true true = refl
-and_turned true false = refl
-and_turned false true = refl
-and_turned false false = refl

@@ -1,20 +1,16 @@
 -- What is added to the known jobs, by the code's own words.
-use Rattle.std.proofs.Common.{◌≡◌, ◌∙◌, ℕ, suc, ◌+◌, ◌<◌, ◌≤◌, ◌⊎◌, inl, inr, List, [], ◌∷◌, ◌++◌, length, Bool, true, false, cond, Option, Some, None, Result, Ok, Err, refl, sym, ap, subst, take, drop, append_assoc, arith, get_or, add-one}
+use Rattle.std.proofs.Common.{◌≡◌, ◌∙◌, ℕ, ◌+◌, ◌<◌, ◌≤◌, ◌⊎◌, inl, inr, List, [], ◌∷◌, ◌++◌, length, Bool, true, false, cond, Option, Some, None, Result, Ok, Err, sym, ap, subst, take, drop, append_assoc, arith, get_or, add-one}
 use Rattle.std.proofs.Math.Seq.{drop-cons, take-append_seam, take-length}
-use Rattle.std.specs.Prelude.{◌||◌}
-use Rattle.std.specs.List.{list_any}
-use Rattle.std.proofs.lemmas.List.Folds.{list_any-append}
 use Rattle.std.proofs.lemmas.List.{length-map, map-append, take-append-drop}
 use Rattle.plan_checker.specs.declared.graph.TheConstants.{MOST_VERTICES, MOST_ENTRIES}
-use Rattle.job_graph.specs.declared.cause.Cause.{Cause}
 use Rattle.job_graph.specs.declared.fault.UnfoldError.{UnfoldError}
 use Rattle.job_graph.specs.declared.fault.UnfoldError.TheVariants.{Refused, OutOfMemory}
 use Rattle.job_graph.specs.declared.fault.UnfoldFault.TheVariants as kept
 use Rattle.job_graph.specs.declared.growth.KnownJob.{KnownJob}
 use Rattle.job_graph.specs.Made.{any_made}
-use Rattle.job_graph.specs.Words.{Fields, JobPlace}
-use Rattle.job_graph.specs.Jobs.{Job, Met, met_job, met_fault}
-use Rattle.job_graph.specs.Unfold.{Known, Fault, too_many_jobs, is_at, is_known, is_within_limits, with_met, first_fault, known_from, entries_from, parents_from}
+use Rattle.job_graph.specs.Words.{Fields}
+use Rattle.job_graph.specs.Jobs.{Job, Met, met_job}
+use Rattle.job_graph.specs.Unfold.{Known, Fault, too_many_jobs, is_known, is_within_limits, with_met, first_fault, known_from, entries_from, parents_from}
 use Rattle.job_graph.specs.Unfolding.{fault_of}
 use Rattle.job_graph.specs.inner.Growth.{AreCounted, Grows, GrowsTo}
 use Rattle.job_graph.specs.KnownJobs.{job_of, jobs_in, known_of}
@@ -22,28 +18,8 @@ use Rattle.job_graph.proofs.MetMore.{with_met_append, fault_past, fault_front, k
 
 -- ---- one that is met
 
-pub grows_none : (known : List KnownJob) (entries : ℕ) → Grows known entries [] known (Ok entries)
-grows_none known entries = record { front = take-length known; grown = λ counted. (refl, refl, counted) }
-
-pub grows_fault : (known : List KnownJob) (entries : ℕ) (place : JobPlace) (cause : Cause) →
-    Grows known entries (met_fault place cause ∷ []) known (Err (Refused (kept.Fault place cause)))
-grows_fault known entries place cause = record { front = take-length known; grown = λ counted. refl }
-
-pub grows_unmemorable : (known : List KnownJob) (entries : ℕ) (met : List Met) → Grows known entries met known (Err OutOfMemory)
-grows_unmemorable known entries met = record { front = take-length known; grown = λ counted. tt }
-
 abbrev fault_where : Bool → Bool → Option Fault
 fault_where known within = cond known None (cond within None (Some too_many_jobs))
-
-pub grows_known : (known : List KnownJob) (entries : ℕ) (job : Job) → is_known (jobs_in known) job ≡ true → Grows known entries (met_job job ∷ []) known (Ok entries)
-grows_known known entries job is = record {
-  front = take-length known;
-  grown = λ counted. (
-    sym (ap (λ (b : Bool). cond b (jobs_in known) (jobs_in known ++ job ∷ [])) is),
-    ap (λ (b : Bool). fault_where b (is_within_limits (jobs_in known ++ job ∷ []))) is,
-    counted,
-  );
-}
 
 -- one job more
 pub counted_push : (known : List KnownJob) (entries : ℕ) (one : KnownJob) → one.parents ≡ parents_from 0 (jobs_in known) one.job.inputs → AreCounted known entries →
@@ -141,18 +117,4 @@ pub parents_at : (known : List KnownJob) (n : ℕ) (one : KnownJob) (inputs : Fi
     ≡ cond (any_made one.job.place inputs) (n ∷ parents_from (n + 1) (jobs_in (drop (n + 1) known)) inputs) (parents_from (n + 1) (jobs_in (drop (n + 1) known)) inputs)
 parents_at known n one inputs below is = rw (drop-cons known n one, ← is) (simp add-one)
 
--- where no job made what is in the inputs
-pub no_parents : (inputs : Fields) → ((job : JobPlace) → any_made job inputs ≡ false) → (n : ℕ) (jobs : List Job) → parents_from n jobs inputs ≡ []
-no_parents inputs none n [] = refl
-no_parents inputs none n (maker ∷ makers) =
-    ap (λ (made : Bool). cond made (n ∷ parents_from (suc n) makers inputs) (parents_from (suc n) makers inputs)) (none maker.place)
-    ∙ no_parents inputs none (suc n) makers
-
 -- ---- whether a job is known
-
--- it is in one of two parts
-pub known_apart : (known : List KnownJob) (job : Job) (n : ℕ) → (is_known (jobs_in (take n known)) job || is_known (jobs_in (drop n known)) job) ≡ is_known (jobs_in known) job
-known_apart known job n =
-    sym (list_any-append (is_at job.place) (jobs_in (take n known)) (jobs_in (drop n known)))
-    ∙ ap (list_any (is_at job.place)) (sym (map-append (λ (k : KnownJob). job_of k.job) (take n known) (drop n known)))
-    ∙ ap (λ (ks : List KnownJob). is_known (jobs_in ks) job) (take-append-drop n known)

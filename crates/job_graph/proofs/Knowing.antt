@@ -85,10 +85,6 @@ front_seen old new (Err error) front = tt
 pub parents_seen : (held : Progress) → Stands held → map known_of held.known ≡ known_from [] (seen held).known
 parents_seen held stands = stands.parents ∙ ap (known_from []) (sym stands.jobs)
 
-pub refused_none : {T : Type 0} (held : Progress) (result : Result T UnfoldError) → OnOk result (held.fault ≡ None) → OnOk result ((seen held).refused ≡ None)
-refused_none held (Ok x) none = ap (λ (found : Option UnfoldFault). option_map fault_of found) none
-refused_none held (Err error) none = tt
-
 pub answers_alike : (old new : UnfoldedSoFar) (one : Resolved) (result : Result (Unit {0}) UnfoldError) → Learns old one new result → OnErr result (AnswersAlike old new)
 answers_alike old new one (Ok done) learns = tt
 answers_alike old new one (Err (Refused fault)) learns = record {

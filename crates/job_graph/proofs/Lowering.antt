@@ -1,18 +1,8 @@
 -- Counts that are lowered, one after another.
-use Rattle.std.proofs.Common.{◌≡◌, ◌∙◌, inl, inr, ⊎_elim, ℕ, zero, suc, ◌+◌, ◌<◌, get_or, length, true, refl, arith}
+use Rattle.std.proofs.Common.{◌≡◌, ◌∙◌, inr, ⊎_elim, ℕ, zero, suc, ◌+◌, ◌<◌, get_or, length, true, refl, arith}
 use Rattle.job_graph.specs.declared.counts.Waits.{Waits}
 use Rattle.job_graph.specs.inner.Counts.{Lowers}
 use Rattle.job_graph.specs.inner.Elements.{stands_in}
-
-pub lowers_none : (f : ℕ → ℕ) (waits : Waits) → ((m : ℕ) → f m ≡ 0) → Lowers f waits waits
-lowers_none f waits nothing = record {
-  counts = λ m. omega (arith, nothing m);
-  long = refl;
-  stays = λ m stands. stands;
-  ready = λ m some none. absurd (omega (arith, some, none));
-  within = λ m stands. inl stands;
-  fewer = omega arith;
-}
 
 pub lowers_then : (f g both : ℕ → ℕ) (old mid new : Waits) → ((m : ℕ) → both m ≡ f m + g m) → Lowers f old mid → Lowers g mid new → Lowers both old new
 lowers_then f g both old mid new sum one other = record {

@@ -4,7 +4,8 @@ use Rattle.cwl_value.specs.declared.value.Value.{Value}
 use Rattle.std.proofs.lemmas.Map.Made.{lookup-map_values}
 use Rattle.plain_data.specs.ByName.{value_at}
 use Rattle.link_values.specs.StepInputs.{null, value_under}
-use Rattle.job_graph.specs.Made.{fields_made, made_place, value_moved}
+use Rattle.cwl_value.specs.Placed.{value_moved}
+use Rattle.job_graph.specs.Made.{fields_made, made_place}
 use Rattle.job_graph.specs.Words.{Name, Fields, JobPlace}
 
 pub made_under : (job : JobPlace) (name : Name) (outputs : Fields) →

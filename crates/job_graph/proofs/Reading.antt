@@ -104,17 +104,6 @@ awaits_none number more awaited none id test m = by (number == m) (more id test)
     by true n none = omega (arith, none)
     by false n none = omega arith
 
--- first these, and then those
-pub awaits_then : (number : ℕ) (one other both : Name → (Name → Bool) → ℕ) (first mid last : List (Name × List Awaited)) → ((id : Name) (test : Name → Bool) → both id test ≡ one id test + other id test)
-    → Awaits number one first mid → Awaits number other mid last → Awaits number both first last
-awaits_then number one other both first mid last sum before after id test m =
-    by (number == m) (both id test) (one id test) (other id test) (sum id test) (before id test m) (after id test m)
-  where
-    by : (b : Bool) (n k l : ℕ) → n ≡ k + l → waits_for test m (awaited_of id mid) ≡ waits_for test m (awaited_of id first) + cond b k 0
-        → waits_for test m (awaited_of id last) ≡ waits_for test m (awaited_of id mid) + cond b l 0 → waits_for test m (awaited_of id last) ≡ waits_for test m (awaited_of id first) + cond b n 0
-    by true n k l sum before after = omega (arith, sum, before, after)
-    by false n k l sum before after = omega (arith, before, after)
-
 -- ---- the first steps are in the table
 
 front_long : {X : Type 0} (xs : List X) (i : ℕ) → i < length xs → length (take i xs) ≡ i

@@ -114,11 +114,6 @@ pub knows_first : (walks : Walker) (held new : Progress) → walks_in held ≡ w
 knows_first walks held new walker learned known entries ended kept apart unfolds =
     knows_after walks [] [] held new walker (ap (map resolved_of) learned) (ap jobs_in known) (none_counted held.known held.entries known entries) refl refl apart (none_ahead held known kept) (no_flags held known ended) unfolds
 
-pub blames_first : (walks : Walker) (held new : Progress) (error : UnfoldError) → walks_in held ≡ walks → held.facts.learned ≡ [] → held.known ≡ [] → held.entries ≡ 0 →
-    held.kept ≡ None → Unfolds held new (Err error) → Blames (unfolded walks []).fault error
-blames_first walks held new error walker learned known entries kept unfolds =
-    blames_after walks [] [] held new error walker (ap (map resolved_of) learned) (ap jobs_in known) (none_counted held.known held.entries known entries) refl (none_ahead held known kept) unfolds
-
 -- once one more place is learned
 
 is_counted : (walks : Walker) (learned : List Resolved) (old : Progress) → Follows walks learned old → AreCounted old.known old.entries

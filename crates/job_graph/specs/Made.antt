@@ -1,31 +1,14 @@
--- Values elsewhere: each File and Directory in them at another place; and which jobs made those in a value.
+-- A job's outputs as the rest of the process sees them; and which jobs made the Files and Directories in a value.
 use Rattle.std.specs.Prelude.{Bool, false, ◌||◌, List, Option, Some, None, map}
 use Rattle.std.specs.List.{list_any}
 use Rattle.cwl_value.specs.Fileless.{some_true}
-use Rattle.cwl_value.specs.declared.value.Value.{Value, fold-Value, roll-Value}
+use Rattle.cwl_value.specs.Placed.{fields_moved}
+use Rattle.cwl_value.specs.declared.value.Value.{Value, fold-Value}
 use Rattle.cwl_value.specs.declared.value.Value.TheOpen.{Value-F, FileVal-F, DirVal-F}
-use Rattle.cwl_value.specs.declared.value.FileVal.{FileVal, roll-FileVal, fold-FileVal}
-use Rattle.cwl_value.specs.declared.value.DirVal.{DirVal, roll-DirVal, fold-DirVal}
+use Rattle.cwl_value.specs.declared.value.FileVal.{FileVal, fold-FileVal}
+use Rattle.cwl_value.specs.declared.value.DirVal.{DirVal, fold-DirVal}
 use Rattle.cwl_value.specs.declared.place.Place.{Place}
 use Rattle.job_graph.specs.Words.{Fields, JobPlace, is_same_place}
-
-abbrev pub file_moved : (Place → Place) → FileVal-F Value DirVal FileVal → FileVal
-file_moved move f = roll-FileVal (record f { place = move f.place })
-
-abbrev pub dir_moved : (Place → Place) → DirVal-F Value DirVal FileVal → DirVal
-dir_moved move d = roll-DirVal (record d { place = move d.place })
-
-abbrev pub value_moved : (Place → Place) → Value → Value
-value_moved move = fold-Value Value DirVal FileVal roll-Value (dir_moved move) (file_moved move)
-
-abbrev pub file_value_moved : (Place → Place) → FileVal → FileVal
-file_value_moved move = fold-FileVal Value DirVal FileVal roll-Value (dir_moved move) (file_moved move)
-
-abbrev pub dir_value_moved : (Place → Place) → DirVal → DirVal
-dir_value_moved move = fold-DirVal Value DirVal FileVal roll-Value (dir_moved move) (file_moved move)
-
-abbrev pub fields_moved : (Place → Place) → Fields → Fields
-fields_moved move fields = map (λ f. (f.0, value_moved move f.1)) fields
 
 -- a relative name in the output folder becomes the job's
 abbrev pub made_place : JobPlace → Place → Place

@@ -40,10 +40,6 @@ literal_of db map it key c h =
 flag_gone : (c : Columns) → Literal c → column (unarchived c) 4 ≡ Int (pos 0)
 flag_gone c l = ap (λ (z : Columns). column (unarchived z) 4) l.is
 
-some_unarchived : (o : Option Columns) → IsSome o → IsSome (option_map unarchived o)
-some_unarchived None there = there
-some_unarchived (Some c) there = refl
-
 -- ---- a key that is used keeps its archive
 
 has_touched : (k key : List ℕ) (xs : List Archive) → has_archive k (touched key xs) ≡ has_archive k xs

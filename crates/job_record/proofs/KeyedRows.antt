@@ -20,9 +20,6 @@ equal_is Less h = absurd (true≢false (sym h))
 equal_is Equal h = refl
 equal_is Greater h = absurd (true≢false (sym h))
 
-tied : (a b : Row) → rowid a ≡ rowid b → value_cmp (rowid a) (rowid b) ≡ Equal
-tied a b is = ap (λ v. value_cmp v (rowid b)) is ∙ tied_itself value_cmp_total (rowid b)
-
 at_rowid : (r : Row) (id : ℤ) → rowid r ≡ Int id → has_rowid id r ≡ true
 at_rowid r id is = ap (λ v. is_eq (value_cmp v (Int id))) is ∙ ap is_eq (tied_itself value_cmp_total (Int id))
 

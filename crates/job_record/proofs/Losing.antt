@@ -152,9 +152,6 @@ loses_more map n a is apart = λ i. record { rows = λ k. rows k i; archives = l
 pub keys_after : (xs : List Archive) (n : ℕ) (a : Archive) → slice_get (drop n xs) 0 ≡ Some a → keys_in (take (suc n) xs) ≡ keys_in (take n xs) ++ a.key ∷ []
 keys_after xs n a is = ap keys_in (first_more xs n a is).0 ∙ keys_more (take n xs) a
 
-pub no_loss : (map : KeyMap) → after_loss 0 map ≡ map
-no_loss map = refl
-
 -- ---- a row that is put
 
 module _ (budget : Option ℕ) (row : Row) (map : KeyMap) (within : map.budget ≡ budget) (apart : AreApart map.archives) where

@@ -210,15 +210,6 @@ Storable row map = IsStorable row
 pub survives_same : (s : State) → Survives s s (λ _. ⊥)
 survives_same s = record { clean = omega arith; shield = λ h. h; counts = omega arith; limit = refl; closes = λ clean h. inl h; crash = λ clean db may. inl may }
 
-pub for_none : (row : Putting) (s : State) → row.stored.archived ≡ false → WalksOn s s Always (TellsFor row) (CannotPut row) (Ok 0)
-for_none row s none = (
-  survives_same s,
-  λ clean going open_then. (
-    record { was_open = open_then; is_open = open_then; committed = refl; going = going },
-    λ map it given. (map, it, (refl, λ keeps. absurd (true≢false (sym keeps ∙ none)))),
-  ),
-)
-
 module _ (row : Putting) (old new : State) where
   pub for_next : (r : Result ℕ RecordFault) → IsTrue row.stored.archived → Walks (Unit {0}) old new Always TellsNext SpentWhy r → WalksOn old new Always (TellsFor row) (CannotPut row) r
   for_next (Ok used) keeps one = walk_done (IsTrue old.is_open) old new Always TellsNext SpentWhy Always (TellsFor row) (CannotPut row) (λ _ _ _. tt) used used (walk_later _ old new Always TellsNext SpentWhy (Ok used) one) (λ map next it given told. (told.0, λ _. told.1))
@@ -361,25 +352,6 @@ TellsLost budget total before lost left turns map done next = HasLost budget tot
 abbrev pub HasWalked : ℕ → ℕ → List (List ℕ) → State → State → List (List ℕ) → ℕ → ℕ → Type 0
 HasWalked budget total before old now lost left turns =
     Walks (IsTrue old.is_open) old now (CanLoseFrom budget total) (TellsLost budget total before lost left turns) Never (Ok (tt {0}))
-
-pub lose_starts : (budget total : ℕ) (before : List (List ℕ)) (s : State) → HasWalked budget total before s s before total 0
-lose_starts budget total before s = (
-  survives_same s,
-  λ clean going open_then. (
-    record { was_open = open_then; is_open = open_then; committed = refl; going = going },
-    λ map it given. (
-      map,
-      it,
-      record {
-        next_is = refl;
-        lost_is = sym (append-nil before);
-        left_is = given.1;
-        within = omega arith;
-        past = λ m is. absurd (omega (arith, is));
-      },
-    ),
-  ),
-)
 
 first_there : (xs : List Archive) → 0 < total_bytes xs → (a : Archive) × (slice_get xs 0 ≡ Some a)
 first_there [] some = absurd (omega (arith, some))

@@ -1,9 +1,9 @@
 -- The steps of a row that is put, and of the archives that have to go for it.
 use Rattle.std.proofs.Common.{◌≡◌, inl, ℕ, ◌≤◌, Bool, true, false, if◌then◌else◌, List, [], ◌∷◌, ◌++◌, Option, Some, None, unwrap_or, Ok, Err, Result, IsTrue, refl, sym, ap, subst, ◌∙◌, arith}
-use Rattle.std.specs.Prelude.{IfSome, take}
+use Rattle.std.specs.Prelude.{IfSome}
 use Rattle.sqlite.specs.State.{State}
 use Rattle.job_rows.specs.declared.archive.Archive.{Archive}
-use Rattle.job_rows.specs.Map.{without_archive, next_used, total_bytes, greatest_number, lost_count, keys_in}
+use Rattle.job_rows.specs.Map.{without_archive, next_used, total_bytes, greatest_number}
 use Rattle.job_record.specs.declared.fault.RecordFault.{RecordFault}
 use Rattle.job_record.specs.declared.fault.RecordFault.TheVariants.{OutOfMemory}
 use Rattle.job_record.specs.declared.changes.Putting.{Putting}
@@ -13,23 +13,12 @@ use Rattle.job_record.proofs.ArchiveList.{list_of, total_bound}
 use Rattle.job_record.proofs.Chain.{Both, walk_join, walk_join_fails, walk_done, walk_refuses, walk_fails, walk_later}
 use Rattle.job_record.proofs.Standing.{archives_at}
 use Rattle.job_record.proofs.Summed.{total_append, left_bytes}
-use Rattle.job_record.proofs.Walked.{survives_same, CanLoseFrom}
+use Rattle.job_record.proofs.Walked.{CanLoseFrom}
 
 -- ---- the archives that have to go
 
 abbrev pub TellsTotal : Answer ℕ
 TellsTotal map bytes next = (next ≡ map) × (bytes ≡ total_bytes map.archives)
-
-pub lose_none : (counted : Option ℕ) (row : Putting) (had : Option ℕ) (s : State) → WalksOn s s (CanLose None counted row had) Loses Never (Ok ([], None))
-lose_none counted row had s = (
-  survives_same s,
-  λ clean going open_then. (
-    record { was_open = open_then; is_open = open_then; committed = refl; going = going },
-    λ map it given.
-        let none : lost_in map ≡ 0 = ap (λ b. lost_count b map.archives) given.0 in
-        (map, it, (sym (ap (λ n. after_loss n map) none), sym (ap (λ n. keys_in (take n map.archives)) none), tt)),
-  ),
-)
 
 module _ (budget : ℕ) (row : Putting) (had : Option ℕ) (old mid new : State) (lost : List (List ℕ)) where
   abbrev answer_of : Result ℕ RecordFault → Result (List (List ℕ) × Option ℕ) RecordFault

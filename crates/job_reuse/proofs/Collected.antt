@@ -12,7 +12,9 @@ use Rattle.plain_data.specs.ByName.{IsByName, name_cmp, value_at, with_value, ma
 use Rattle.plain_data.proofs.ByName.{order_by_name}
 use Rattle.cwl_process.specs.declared.tool.OutputType.{OutputType}
 use Rattle.cwl_process.specs.declared.tool.ToolOutput.{ToolOutput}
+use Rattle.serde_json.specs.Data.{depth}
 use Rattle.cwl_value.proofs.Induction.{Cases, induction}
+use Rattle.cwl_value.proofs.JsonOf.{json_of-Fields}
 use Rattle.cwl_value.specs.Reading.{greatest_depth}
 use Rattle.cwl_value.specs.declared.place.Place.{Place}
 use Rattle.cwl_value.specs.declared.place.Place.TheVariants.{Nowhere, Url, Path, Made}
@@ -21,6 +23,7 @@ use Rattle.cwl_value.specs.declared.value.Value as value
 use Rattle.cwl_value.specs.declared.value.Value.TheOpen.{FileVal-F, DirVal-F}
 use Rattle.cwl_value.specs.declared.value.FileVal.{FileVal}
 use Rattle.cwl_value.specs.declared.value.DirVal.{DirVal}
+use Rattle.value_depth.specs.Limit.{is_object_within_limit}
 use Rattle.staging.proofs.Greedy.{both_first, both_second}
 use Rattle.staging.specs.declared.found.Found.{Found}
 use Rattle.collected_outputs.specs.Checked.{every, is_typed, all_found, bare}
@@ -30,7 +33,7 @@ use Rattle.collected_outputs.specs.Listing.{Listing, entry_of, is_path, listing_
 use Rattle.collected_outputs.specs.Matched.{Name}
 use Rattle.collected_outputs.specs.Object.{Named, object_of, written}
 use Rattle.collected_outputs.specs.Outputs.{Left, AreOutputs, HasValue, checked, output_value, value_beside}
-use Rattle.collected_outputs.specs.Readable.{has_class, is_readable, nesting}
+use Rattle.collected_outputs.specs.Readable.{has_class, is_readable}
 use Rattle.collected_outputs.specs.Throughout.{FileTest, DirTest, all_places}
 use Rattle.collected_outputs.specs.declared.fault.CollectFault.{CollectFault}
 use Rattle.collected_outputs.specs.declared.fault.CollectFault.TheVariants.{NotTyped, NameOutside}
@@ -41,7 +44,6 @@ use Rattle.job_reuse.specs.Left.{is_elsewhere, IsLeftBy}
 use Rattle.job_reuse.proofs.Bound.{bound_good}
 use Rattle.job_reuse.proofs.Folder.{ArePaths}
 use Rattle.job_reuse.proofs.Good.{IsGood, AreGood, AreGoodFields, FileIs, DirIs}
-use Rattle.job_reuse.proofs.Nesting.{nests_as_json}
 use Rattle.job_reuse.proofs.Paths.{IsPath, path_of}
 use Rattle.job_reuse.proofs.Settled.{IsSettled, AreSettledFields, settled}
 use Rattle.job_reuse.proofs.Storable.{storable}
@@ -236,8 +238,8 @@ module _ (found : List Found) (left : Left) (is_left : IsLeftBy found left) wher
       let object : Value = value.Fields values in
       let in_form : IsInForm object = IsInForm.fields values form.order form.each in
       let no_class : Bool = not (has_class object) in
-      let shallow : Bool = nat_le (nesting object) greatest_depth in
+      let shallow : Bool = is_object_within_limit values in
       record {
         object = storable L object (IsSettled.fields values (as_fields values read.settled)) in_form (not_true (has_class object) (both_first no_class shallow read.readable));
-        shallow = ap (λ n. nat_le n greatest_depth) (sym (nests_as_json object in_form)) ∙ both_second no_class shallow read.readable;
+        shallow = ap (λ d. nat_le (depth d) greatest_depth) (json_of-Fields values) ∙ both_second no_class shallow read.readable;
       }

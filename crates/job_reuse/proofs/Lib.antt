@@ -12,7 +12,6 @@ pub mod InTurn
 pub mod Indexed
 pub mod Lawful
 pub mod Members
-pub mod Nesting
 pub mod Paths
 pub mod Referring
 pub mod Refilled

@@ -51,10 +51,6 @@ rising_without key list rising = rising_kept (λ archive. not (is_of key archive
 
 -- ---- each command
 
-some_unarchived : (o : Option Kept) → IsSome o → IsSome (option_map unarchived o)
-some_unarchived None there = there
-some_unarchived (Some kept) there = refl
-
 flag_gone : (o : Option Kept) (row : Row) → option_map unarchived o ≡ Some (reads row) → row.archived ≡ false
 flag_gone None row is = cc
 flag_gone (Some (reads other)) row is = let same : record other { archived = false } ≡ row = cc in sym (ap (λ (r : Row). r.archived) same)

@@ -1,6 +1,6 @@
 -- Lists of archives: which keys they have, how many have to go, and the next number.
-use Rattle.std.proofs.Common.{◌≡◌, inl, inr, ℕ, suc, zero, ◌+◌, ◌-◌, ◌≤◌, ◌<◌, max, Bool, true, false, not, ◌&&◌, ◌||◌, cond, if◌then◌else◌, List, [], ◌∷◌, ◌++◌, length, take, drop, get_or, Option, Some, None, option_map, bytes_eq, nat_le, refl, sym, ap, subst, ◌∙◌, arith, true≢false}
-use Rattle.std.specs.Prelude.{find, option_to_list, remove, slice_index_or}
+use Rattle.std.proofs.Common.{◌≡◌, inl, inr, ℕ, suc, zero, ◌+◌, ◌-◌, ◌≤◌, ◌<◌, Bool, true, false, not, ◌&&◌, ◌||◌, cond, if◌then◌else◌, List, [], ◌∷◌, ◌++◌, length, take, drop, get_or, Option, Some, None, option_map, bytes_eq, nat_le, refl, sym, ap, subst, ◌∙◌, arith, true≢false}
+use Rattle.std.specs.Prelude.{find, option_to_list}
 use Rattle.std.specs.Cmp.Lexicographic.{bytes_decides}
 use Rattle.std.proofs.lemmas.Bool.{leb-true, le-leb}
 use Rattle.std.proofs.lemmas.Bool.Decides.{leb_tells}
@@ -8,7 +8,7 @@ use Rattle.std.proofs.lemmas.List.{take-append-drop}
 use Rattle.std.proofs.lemmas.List.Folds.{list_any-append}
 use Rattle.job_rows.specs.declared.archive.Archive.{Archive}
 use Rattle.job_rows.specs.declared.row.Row.{Row}
-use Rattle.job_rows.specs.Map.{is_of, has_archive, without_archive, total_bytes, greatest_used, keys_in, next_used, touched, lost_count, bytes_of, fits, keeps_archive, own_archives, archives_with}
+use Rattle.job_rows.specs.Map.{is_of, has_archive, without_archive, total_bytes, keys_in, next_used, touched, lost_count, bytes_of, fits, keeps_archive, own_archives, archives_with}
 use Rattle.job_rows.specs.InStep.{AreApart, AlwaysKeepsBudget}
 
 -- ---- which keys have an archive
@@ -351,24 +351,9 @@ total_from [] m d within = absurd (omega arith)
 total_from (x ∷ xs) zero d within = refl
 total_from (x ∷ xs) (suc m) d within = total_from xs m d (omega arith)
 
-pub greatest_from : (xs : List Archive) (m : ℕ) (d : Archive) → m < length xs → greatest_used (drop m xs) ≡ max (get_or xs m d).used (greatest_used (drop (suc m) xs))
-greatest_from [] m d within = absurd (omega arith)
-greatest_from (x ∷ xs) zero d within = refl
-greatest_from (x ∷ xs) (suc m) d within = greatest_from xs m d (omega arith)
-
 pub none_left : (xs : List Archive) → drop (length xs) xs ≡ []
 none_left [] = refl
 none_left (x ∷ xs) = none_left xs
-
-pub first_left : (xs : List Archive) (m : ℕ) (d : Archive) → m < length xs → slice_index_or (drop m xs) 0 d ≡ get_or xs m d
-first_left [] m d within = absurd (omega arith)
-first_left (x ∷ xs) zero d within = refl
-first_left (x ∷ xs) (suc m) d within = first_left xs m d (omega arith)
-
-pub first_removed : (xs : List Archive) (m : ℕ) → m < length xs → remove (drop m xs) 0 ≡ drop (suc m) xs
-first_removed [] m within = absurd (omega arith)
-first_removed (x ∷ xs) zero within = refl
-first_removed (x ∷ xs) (suc m) within = first_removed xs m (omega arith)
 
 pub length_left : (xs : List Archive) (m : ℕ) → m < length xs → 0 < length (drop m xs)
 length_left [] m within = absurd (omega arith)

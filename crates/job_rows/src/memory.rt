@@ -10,7 +10,7 @@ use crate::archive::Archive;
 use crate::archives::{self, Ready};
 use crate::log::{note, room, told_of};
 use crate::{Command, Entry, Record, RecordError, RecordRefusal, Row};
-use plain_data::{Items, Keyed, Text};
+use plain_data::{Items, Keyed, Shared, Text};
 use std::alloc::{AllocError, Global};
 use std::marker::Model;
 
@@ -20,7 +20,8 @@ use std::marker::Model;
 #[derive(Drop)]
 pub struct MemoryRecord {
     alloc: Global,
-    rows: Keyed<Row>,
+    /// Behind a pointer each, so that a put moves little.
+    rows: Keyed<Shared<Row>>,
     archives: Vec<Archive>,
     budget: Option<u64>,
     log: Vec<Entry>,
@@ -158,7 +159,7 @@ impl Record for MemoryRecord {
 // A copy of the row of a key, if there is one.
 fn row_of(
     alloc: Global,
-    rows: &Keyed<Row>,
+    rows: &Keyed<Shared<Row>>,
     archives: &[Archive],
     key: &Text,
 ) -> Result<Option<Row>, RecordError>
@@ -167,7 +168,7 @@ fn row_of(
     ensures memory { IfErr result (λ e. e ≡ OutOfMemory) }
 {
     match rows.get(key.as_str()) {
-        Some(row) => Ok(Some(row_with(alloc, archives, key, row)?)),
+        Some(row) => Ok(Some(row_with(alloc, archives, key, row.as_ref())?)),
         None => Ok(None),
     }
 }
@@ -186,7 +187,7 @@ fn row_with(alloc: Global, archives: &[Archive], key: &Text, row: &Row) -> Resul
 // Sets the row of its key, and returns the keys that are without their archive by it.
 fn set(
     alloc: Global,
-    rows: &mut Keyed<Row>,
+    rows: &mut Keyed<Shared<Row>>,
     archives: &mut Vec<Archive>,
     budget: Option<u64>,
     row: &Row,
@@ -203,12 +204,16 @@ fn set(
 {
     let ready = Ready::new(alloc, archives, budget, row)?;
     let key = row.key.copied(alloc)?;
-    rows.insert(key, row.clone_in(alloc)?)?;
+    rows.insert(key, Shared::new(alloc, row.clone_in(alloc)?)?)?;
     Ok(ready.put(archives, budget, row))
 }
 
 // Notes that the archive of a key's row is gone.
-fn unarchive(rows: &Keyed<Row>, archives: &mut Vec<Archive>, key: &Text) -> Result<(), RecordError>
+fn unarchive(
+    rows: &Keyed<Shared<Row>>,
+    archives: &mut Vec<Archive>,
+    key: &Text,
+) -> Result<(), RecordError>
     ensures there { OnOk result (IsSome (value_at key.now rows.now)) }
     ensures ok { OnOk result (archives.new.items
         ≡ without_archive key.now archives.old.items) }

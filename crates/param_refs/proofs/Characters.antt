@@ -1,5 +1,5 @@
 -- Counting through the characters of a text, and reading an index.
-use Rattle.std.proofs.Common.{◌≡◌, ℕ, zero, suc, ◌-◌, ◌<◌, ◌≤◌, List, [], ◌∷◌, ◌++◌, length, Option, Some, None, option_map, refl, sym, ap, ◌∙◌, arith}
+use Rattle.std.proofs.Common.{◌≡◌, ℕ, zero, suc, ◌-◌, ◌<◌, ◌≤◌, List, [], ◌∷◌, ◌++◌, length, Option, None, option_map, refl, sym, ap, ◌∙◌, arith}
 use Rattle.std.specs.List.{slice_get}
 use Rattle.std.specs.Str.{chars, IsUtf8}
 use Rattle.std.specs.Char.{encode_utf8}
@@ -22,10 +22,6 @@ counting-next text index rest left c after h parts some =
       utf8 = IsUtf8-past_char rest after c h.utf8 parts;
       same = h.same ∙ ap (λ cs. slice_get cs left) (chars_past_char rest after c h.utf8 parts) ∙ next_index c (chars after) left some;
     }
-
-pub counting-here : (text : List ℕ) (index : ℕ) (rest : List ℕ) (left : ℕ) (c : ℕ) (after : List ℕ) → Counting text index rest left → rest ≡ encode_utf8 c ++ after → left ≡ 0 → Some c ≡ slice_get (chars text) index
-counting-here text index rest left c after h parts none =
-    sym (h.same ∙ ap (slice_get (chars rest)) none ∙ ap (λ cs. slice_get cs 0) (chars_past_char rest after c h.utf8 parts))
 
 pub counting-past : (text : List ℕ) (index : ℕ) (rest : List ℕ) (left : ℕ) → Counting text index rest left → length rest ≡ 0 → None ≡ slice_get (chars text) index
 counting-past text index [] left h none = sym (h.same ∙ ap (λ cs. slice_get cs left) chars-nil)

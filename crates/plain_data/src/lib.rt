@@ -30,4 +30,4 @@ pub use items::Items;
 pub use keyed::{Keyed, RepeatedName};
 pub use shared::Shared;
 pub use shared_items::SharedItems;
-pub use text::Text;
+pub use text::{Text, copied_if_any};

@@ -82,6 +82,16 @@ impl Text {
     }
 }
 
+/// The text, if there is one, in memory of its own.
+pub fn copied_if_any(alloc: Global, text: &Option<Text>) -> Result<Option<Text>, AllocError>
+    ensures { IfOk result (λ copy. copy ≡ text.now) }
+{
+    match text {
+        None => Ok(None),
+        Some(text) => Ok(Some(text.copied(alloc)?)),
+    }
+}
+
 impl PartialEq for Text {
     ghost eq = { pointwise nat_eq };
 

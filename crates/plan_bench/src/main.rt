@@ -2,8 +2,7 @@
 //!
 //! It reads a certificate from the standard input, and leaves its plan and charges aside. Without an argument it plans
 //! the graph, checks what was planned, and prints the cost; with `times` it also prints the microseconds that planning,
-//! checking, and planning again from the charges took; with `paths` the microseconds that planning took, and that a search by
-//! paths took that begins with no flow. With `run` it simulates a run of the jobs (`run.rt`), plans at
+//! checking, and planning again from the charges took. With `run` it simulates a run of the jobs (`run.rt`), plans at
 //! each planning point, and prints how long all plans took; with a number behind it, it goes as far as that planning
 //! point, prints its graph as a certificate, and tells the times of that point on the standard error.
 #![tactic(auto)]
@@ -38,15 +37,14 @@ fn graph_of(rt: &HostRuntime) -> Result<Graph> {
 fn measured(rt: &HostRuntime, graph: &Graph, verb: &str) -> Result<()> {
     match verb {
         "times" => times::times(rt, graph),
-        "paths" => times::beside_paths(rt, graph),
         "run" => simulated::whole(rt, graph.vertices()),
-        _ => bail!("times, paths, run, or run POINT"),
+        _ => bail!("times, run, or run POINT"),
     }
 }
 
 fn until(rt: &HostRuntime, graph: &Graph, verb: &str, point: &str) -> Result<()> {
     match verb {
         "run" => simulated::until(rt, graph.vertices(), point.parse::<usize>()?),
-        _ => bail!("times, paths, run, or run POINT"),
+        _ => bail!("times, run, or run POINT"),
     }
 }

@@ -5,7 +5,6 @@ use flow_planner::{plan, plan_again};
 use plan_checker::{Charges, Graph, Plan, check};
 use std::mem;
 use std::time::Instant;
-use test_paths::plan_by_paths;
 
 /// Prints the cost of the Least plan.
 pub fn cost(rt: &HostRuntime, graph: &Graph) -> Result<()> {
@@ -42,16 +41,6 @@ pub fn anew(rt: &HostRuntime, graph: &Graph) -> Result<u128> {
     let start = Instant::now(rt)?;
     let made = plan(rt.alloc(), graph)?;
     since(rt, start, made)
-}
-
-/// Prints the microseconds of `plan`, and of a search by paths that begins with no flow: what the flow of level graphs saves.
-pub fn beside_paths(rt: &HostRuntime, graph: &Graph) -> Result<()> {
-    let anew = anew(rt, graph)?;
-    let start = Instant::now(rt)?;
-    let made = plan_by_paths(rt.alloc(), graph)?;
-    let paths = since(rt, start, made)?;
-    println!(rt; "plan {anew}\npaths {paths}")?;
-    Ok(())
 }
 
 /// The microseconds of `plan_again` from these charges.

@@ -230,26 +230,7 @@ costly_mark : (graph : List Vertex) (marks : List Mark) (i : ℕ) → AreApart g
 costly_mark graph marks i apart marked hi dear =
     marked.others i hi (λ j hj computed there. dear (parent_is_free graph j i apart hj computed there))
 
-computed_here : (graph : List Vertex) (marks : List Mark) (j : ℕ) → AreApart graph → AreMarkedApart graph marks (length graph) → j < length graph → alone (vertex graph j) ≡ Compute → mark marks j ≡ Compute
-computed_here graph marks j apart marked hj e = costly_mark graph marks j apart marked hj (computed_is_costly (vertex graph j) e) ∙ e
-
 -- free vertices
-
-free_mark : (load : Option ℕ) (compute : ℕ) (needed : Bool) → load ≡ Some 0 → needed ≡ true → mark_of load compute needed ≡ Load
-unfolding mark_of
-free_mark load compute false free e = absurd (true≢false (sym e))
-free_mark None compute true free e = absurd (cc)
-free_mark (Some load) compute true free e =
-    let zero_is : load ≡ 0 = cc in
-    ⊎_elim
-    (λ le. loaded_where load compute le)
-    (λ gt. let lt = leb-false load compute gt in absurd (omega arith))
-    (either (leb load compute))
-
-spare_mark : (load : Option ℕ) (compute : ℕ) (needed : Bool) → needed ≡ false → mark_of load compute needed ≡ Prune
-unfolding mark_of
-spare_mark load compute false e = refl
-spare_mark load compute true e = absurd (true≢false e)
 
 free_charge : (load : Option ℕ) (compute : ℕ) (needed : Bool) → load ≡ Some 0 → cost_to load compute needed ≡ 0
 unfolding cost_to

@@ -93,13 +93,6 @@ set_keeps graph marks i its hi good j was =
     (λ ne. subst (IsMarkApart graph j) (sym (get_or-set_other marks i j its Prune ne)) was)
     (cases_eq j i)
 
-pub remarked_first : (graph : List Vertex) (marks : List Mark) (numbers : List ℕ) → AreRemarked graph marks marks numbers 0
-remarked_first graph marks numbers = record {
-  count = refl;
-  made = λ k hk. absurd (omega arith);
-  stays = λ i was. was;
-}
-
 pub remarked_more : (graph : List Vertex) (old marks : List Mark) (numbers : List ℕ) (n i : ℕ) (its : Mark) → AreRemarked graph old marks numbers n → i ≡ get_or numbers n 0 → i < length marks → IsMarkApart graph i its → AreRemarked graph old (set marks i its) numbers (n + 1)
 remarked_more graph old marks numbers n i its before e hi good =
     let P : ℕ → Type 0 = λ k. IsMarkApart graph k (mark (set marks i its) k) in

@@ -3,10 +3,6 @@ use Rattle.std.proofs.Common.{◌≡◌, ℕ, zero, suc, ◌+◌, ◌-◌, ◌�
 use Rattle.plan_waits.specs.Waiting.{is_open, open_steps, open_within}
 use Rattle.plan_waits.specs.declared.waiting.Standing.{Standing}
 
--- one link further
-pub open_within_more : (k : ℕ) (steps : List Standing) → open_within (k + 1) steps ≡ map (is_open (open_within k steps)) steps
-open_within_more k steps = let e : k + 1 ≡ suc k = omega arith in rw e refl
-
 -- where one link more gives nothing new, no link does
 stays : (m k : ℕ) (steps : List Standing) → map (is_open (open_within k steps)) steps ≡ open_within k steps → open_within (m + k) steps ≡ open_within k steps
 stays zero k steps same = let e : zero + k ≡ k = omega arith in rw e refl

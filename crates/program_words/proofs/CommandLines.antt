@@ -7,8 +7,7 @@ use Rattle.clap.specs.declared.parser.matches.ArgMatches.{ArgMatches}
 use Rattle.clap.specs.declared.parser.matches.ArgMatches.TheViews.{out-ArgMatches, out-SubCommand}
 use Rattle.std.specs.Box.{box_value}
 use Rattle.clap.proofs.OnLiterals.{clap_on_literals}
-use Rattle.program_words.specs.CommandLine.{Asks, Wish, asks, check_wish, command_line, run, wished}
-use Rattle.program_words.specs.RunWords.{RunWish, run_wish}
+use Rattle.program_words.specs.CommandLine.{Asks, Wish, asks, check_wish, command_line, wished}
 
 simple : is_simple command_line ≡ true
 unfolding clap_on_literals
@@ -78,11 +77,3 @@ pub check_wished : (m words : ArgMatches) (wish : Wish)
     → wish ≡ check_wish (rows_of (found_of words))
     → wish ≡ wished (subcommand_rows_of m)
 check_wished m words wish name rows is_it = is_it ∙ ap wished (sym (named_rows m words (codes "check") name rows))
-
--- what is read of the matches of `run`
-pub run_wished : (m words : ArgMatches) (wish : RunWish)
-    → subcommand_name_of m ≡ Some (codes "run")
-    → option_map (λ (p : Text × List Row). p.1) (subcommand_rows (out-ArgMatches m).subcommand) ≡ Some (rows_of (found_of words))
-    → wish ≡ run_wish (rows_of (found_of words))
-    → run wish ≡ wished (subcommand_rows_of m)
-run_wished m words wish name rows is_it = ap run is_it ∙ ap wished (sym (named_rows m words (codes "run") name rows))

@@ -9,8 +9,7 @@ use Rattle.std.proofs.lemmas.List.{append-nil, take_all, take_more}
 use Rattle.std.proofs.lemmas.List.Elements.{all_zip_more, length_all_zip, All-nil, All-head, All-tail, All-append, All-from_get_or}
 use Rattle.std.proofs.lemmas.Str.{encode_ascii, encodes-append, encodes-chars, chars_from_encodes, NoCharPasses-nil, NoCharPasses-append}
 use Rattle.std.proofs.lemmas.Str.Pattern.{NoCharPasses-char}
-use Rattle.command_line.specs.declared.launch.Launch.{Launch}
-use Rattle.program_words.specs.ShellWords.{Adds, AreRead, IsLineOf, IsRedirection, IsEscaped, IsRead, IsShown, IsTextOf, IsWritten, ends, plain, quote, backslash, octal, bare, kept_quote, single_quoted, dollar_quoted, alone, followed, is_bare}
+use Rattle.program_words.specs.ShellWords.{Adds, AreRead, IsRedirection, IsEscaped, IsRead, IsShown, IsTextOf, IsWritten, ends, plain, quote, backslash, octal, bare, kept_quote, single_quoted, dollar_quoted, alone, followed, is_bare}
 use Rattle.program_words.specs.Visible.{is_hidden}
 
 pub on_ok : {T E : Type 0} (r : Result T E) (P Q : Type 0) → (P → Q) → OnOk r P → OnOk r Q
@@ -250,25 +249,6 @@ words_shown i word line spaced new shown space more =
 -- what opened, what followed and what closed
 pub closed : (old front text line new close : List ℕ) → line ≡ (old ++ front) ++ text → new ≡ line ++ close → new ≡ old ++ ((front ++ text) ++ close)
 closed old front text line new close a b = rw (b, a) (simp append_assoc)
-
--- the words, and what was put behind them in turn
-pub line_whole : (launch : Launch) (words first second last : List ℕ) → AreRead launch.words words
-    → Adds (λ text. IsRedirection (codes " <") launch.stdin text × IsShown text) words first
-    → Adds (λ text. IsRedirection (codes " >") launch.stdout text × IsShown text) first second
-    → Adds (λ text. IsRedirection (codes " 2>") launch.stderr text × IsShown text) second last
-    → IsLineOf launch last
-line_whole launch words first second last read a b c =
-    record {
-      words = words;
-      stdin = a.0;
-      stdout = b.0;
-      stderr = c.0;
-      are_words = read;
-      is_stdin = a.2.0;
-      is_stdout = b.2.0;
-      is_stderr = c.2.0;
-      joined = c.1 ∙ ap (λ t. t ++ c.0) (b.1 ∙ ap (λ t. t ++ b.0) a.1);
-    }
 
 pub shown_in : IsShown (codes " <")
 shown_in = shown_cons 32 _ (omega arith) refl (shown_cons 60 _ (omega arith) refl shown_nil)

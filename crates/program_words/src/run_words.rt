@@ -10,12 +10,11 @@ use crate::telling::Telling;
 use clap::builder::ValueParser;
 use clap::error::ErrorKind;
 use clap::{Arg, ArgAction, ArgMatches, Command, Error};
+use given_words::MOST_SLOTS;
 use plan_checker::MOST_COST;
 use std::alloc::Global;
 
 const LEAST_SLOTS: u64 = 1;
-
-const MOST_SLOTS: u64 = 64;
 
 const MOST_RETRIES: u64 = 10;
 

@@ -54,12 +54,6 @@ first_of_some : {X : Type 0} (xs : List X) → xs ≢ [] → (x : X) × Has xs x
 first_of_some [] some = absurd (some refl)
 first_of_some (x ∷ xs) some = (x, inl refl)
 
-has_before : {X : Type 0} (xs : List X) (last x : X) → Has (xs ++ last ∷ []) x → Has xs x ⊎ (x ≡ last)
-has_before [] last x (inl is) = inr is
-has_before [] last x (inr none) = absurd none
-has_before (y ∷ ys) last x (inl is) = inl (inl is)
-has_before (y ∷ ys) last x (inr later) = elim (has_before ys last x later) [ inl before ↦ inl (inr before) | inr is ↦ inr is ]
-
 both_filters : {X : Type 0} (p q : X → Bool) (xs : List X) → ((x : X) → Has xs x → p x ≡ q x) → filter p xs ≡ filter q xs
 both_filters p q [] same = refl
 both_filters p q (x ∷ xs) same =

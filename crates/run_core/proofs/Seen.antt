@@ -2,13 +2,9 @@
 use Rattle.std.specs.Prelude.{◌<◌, option_map, slice_get}
 use Rattle.std.proofs.Common.{◌≡◌, ◌∙◌, ℕ, List, length, map, Some, refl, sym, ap, get_or}
 use Rattle.std.proofs.lemmas.Option.{slice_get-map, slice_get_read}
-use Rattle.std.proofs.lemmas.List.{length-map}
 use Rattle.job_graph.specs.Jobs.{Job}
 use Rattle.job_graph.specs.declared.growth.KnownJob.{KnownJob}
 use Rattle.job_graph.specs.KnownJobs.{job_of}
-
-pub seen_length : (kept : List KnownJob) (jobs : List Job) → map (λ (one : KnownJob). job_of one.job) kept ≡ jobs → length kept ≡ length jobs
-seen_length kept jobs are = sym (length-map kept (λ (one : KnownJob). job_of one.job)) ∙ ap length are
 
 pub seen_at : (kept : List KnownJob) (jobs : List Job) (number : ℕ) (job : KnownJob) → map (λ (one : KnownJob). job_of one.job) kept ≡ jobs → number < length kept →
     job ≡ get_or kept number job → slice_get jobs number ≡ Some (job_of job.job)

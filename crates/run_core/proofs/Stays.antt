@@ -1,25 +1,16 @@
 -- What stays of a course, and what a step then may rest on.
 use Rattle.std.specs.Prelude.{Contains}
-use Rattle.std.proofs.Common.{◌≡◌, ℕ, List, ap}
+use Rattle.std.proofs.Common.{◌≡◌, ℕ}
 use Rattle.std.proofs.lemmas.Option.{get_or_from_slice_get, slice_get_within}
-use Rattle.job_graph.specs.Jobs.{Walker}
-use Rattle.job_graph.specs.Unfold.{Resolved}
 use Rattle.run_core.specs.declared.state.Course.{Course}
 use Rattle.run_core.specs.declared.state.Flight.{Flight}
 use Rattle.run_core.specs.inner.Course.{Past, TakesOut}
-use Rattle.run_core.specs.inner.Knows.{IsUnfolded, fails, knows}
 
 -- the same jobs were staged, in as many folders, and the same children are in flight
 pub record Stays (old new : Course) : Type 0 where
   pub jobs : new.jobs ≡ old.jobs
   pub folders : new.folders ≡ old.folders
   pub tickets : new.tickets.items ≡ old.tickets.items
-
-pub stays_unfolded : (walks : Walker) (learned : List Resolved) (old new : Course) → IsUnfolded walks learned old new → Stays old new
-stays_unfolded walks learned old new (knows kept known is there same) =
-    record { jobs = ap (λ (p : Past). p.jobs) same; folders = ap (λ (p : Past). p.folders) same; tickets = ap (λ (p : Past). p.tickets) same }
-stays_unfolded walks learned old new (fails fault known is there same) =
-    record { jobs = ap (λ (p : Past). p.jobs) same; folders = ap (λ (p : Past). p.folders) same; tickets = ap (λ (p : Past). p.tickets) same }
 
 -- the flight that is taken out was one of those
 pub flew : (ticket : ℕ) (flight : Flight) (old new : Past) → TakesOut ticket flight old new → Contains old.flights flight

@@ -12,12 +12,12 @@ use crate::delivery::delivery;
 use crate::fetching::{fetching, next_to_fetch};
 use crate::finding::{finding, next_to_find};
 use crate::folders::in_folder;
-use crate::places::{Sources, Way, moved_fields};
+use crate::places::{Sources, Way};
 use crate::planning::{marks_in, replan};
 use crate::state::{Course, Given, Phase, Turn};
 use crate::turn::{collecting, ended};
 use crate::{Options, Request};
-use cwl_value::{Value, copy_job};
+use cwl_value::{Value, copy_job, placed_fields};
 use plain_data::Keyed;
 use proc_host::HostRequest;
 use staging::{StagePlan, stage_plan};
@@ -150,5 +150,5 @@ pub(crate) fn sources_of(
         known: &course.known,
         jobs: course.jobs.as_slice(),
     };
-    moved_fields(alloc, Way::Left(sources), values)
+    placed_fields(alloc, &Way::Left(sources), values)
 }

@@ -9,10 +9,10 @@ ghost use Rattle.staging.specs.Plan.{IsPlan};
 use crate::choice::sources_of;
 use crate::fields::put;
 use crate::files::has_file;
-use crate::places::{Way, moved_fields};
+use crate::places::Way;
 use crate::state::{Course, Given, Phase, Turn};
 use crate::turn::{succeeded, waiting};
-use cwl_value::Value;
+use cwl_value::{Value, placed_fields};
 use plain_data::{Keyed, Text};
 use proc_host::HostRequest;
 use staging::{StagePlan, deliver_plan};
@@ -79,7 +79,7 @@ fn outputs_of(alloc: Global, outputs: &[(Text, Value)]) -> Result<Outputs, Alloc
 fn located(alloc: Global, values: &Keyed<Value>) -> Result<Value, AllocError>
     ensures { IfOk result (λ value. value ≡ located values.now) }
 {
-    Ok(Value::Fields(moved_fields(alloc, Way::Located, values)?))
+    Ok(Value::Fields(placed_fields(alloc, &Way::Located, values)?))
 }
 
 /// The files are to be copied.

@@ -1,15 +1,14 @@
 //! Values whose files stand elsewhere.
-ghost use Rattle.std.specs.Prelude.{◌≡◌, IfOk, map, option_copied};
+ghost use Rattle.std.specs.Prelude.{◌≡◌, IfOk, option_copied};
 ghost use Rattle.run_rules.specs.Delivered.{location_place, made_path};
-ghost use Rattle.job_graph.specs.Made.{value_moved, fields_moved};
-ghost use Rattle.run_core.specs.inner.Places.{file_elsewhere, dir_elsewhere, file_with, left_by, left_place, left_at_source, place_by};
+ghost use Rattle.run_core.specs.inner.Places.{left_at_source, left_by, left_place, place_by};
 
 use crate::folders::{Left, left_folder, path_in};
 use crate::job_states::JobState;
-use cwl_value::{DirVal, FileVal, JobPlace, Place, Value, holds_files};
+use cwl_value::{JobPlace, Place, Placing};
 use file_values::path_to_location;
 use job_graph::Unfolding;
-use plain_data::{Items, Keyed, Text};
+use plain_data::Text;
 use std::alloc::{AllocError, Global};
 
 /// Where the files of jobs are: below the work folder, in the folders of the job that made them.
@@ -29,107 +28,13 @@ pub(crate) enum Way<'s, 'a> {
     Located,
 }
 
-/// The value with each File and Directory in it at another place.
-#[cycle(moving)]
-pub(crate) fn moved(alloc: Global, way: Way<'_, '_>, value: &Value) -> Result<Value, AllocError>
-    ensures { IfOk result (λ found. found ≡ value_moved (place_by way.entry) value.now) }
-{
-    match value {
-        Value::FileVal(file) => Ok(Value::FileVal(moved_file(alloc, way, file)?)),
-        Value::DirVal(dir) => Ok(Value::DirVal(moved_dir(alloc, way, dir)?)),
-        Value::List(_) if !holds_files(value) => value.clone_in(alloc),
-        Value::List(items) => Ok(Value::of_items(moved_items(alloc, way, items.as_items())?)),
-        Value::Fields(fields) => Ok(Value::Fields(moved_fields(alloc, way, fields)?)),
-        _ => value.clone_in(alloc),
-    }
-}
+impl Placing for Way<'_, '_> {
+    ghost use Rattle.run_core.specs.inner.Places.{place_by};
 
-#[cycle(moving)]
-fn moved_file(alloc: Global, way: Way<'_, '_>, file: &FileVal) -> Result<FileVal, AllocError>
-    ensures { IfOk result (λ found. found ≡ file_elsewhere (place_by way.entry) file.now) }
-{
-    let secondary = moved_items(alloc, way, &file.secondary)?;
-    let place = moved_place(alloc, way, &file.place)?;
-    file_at(alloc, file, place, secondary)
-}
+    ghost goes = { place_by };
 
-#[cycle(moving)]
-fn moved_dir(alloc: Global, way: Way<'_, '_>, dir: &DirVal) -> Result<DirVal, AllocError>
-    ensures { IfOk result (λ found. found ≡ dir_elsewhere (place_by way.entry) dir.now) }
-{
-    let basename = copy_if_any(alloc, &dir.basename)?;
-    let place = moved_place(alloc, way, &dir.place)?;
-    let listing = match &dir.listing {
-        None => None,
-        Some(entries) => Some(moved_items(alloc, way, entries)?),
-    };
-    Ok(DirVal {
-        place,
-        basename,
-        listing,
-    })
-}
-
-#[cycle(moving)]
-fn moved_items(
-    alloc: Global,
-    way: Way<'_, '_>,
-    items: &Items<Value>,
-) -> Result<Items<Value>, AllocError>
-    ensures { IfOk result (λ found. found ≡ map (value_moved (place_by way.entry)) items.now) }
-{
-    let mut found = Items::from_vec(Vec::with_capacity(alloc, items.len())?);
-    for item in items.as_slice() {
-        found.push(moved(alloc, way, item)?)?;
-    }
-    Ok(found)
-}
-
-/// The fields with each File and Directory in them at another place.
-#[cycle(moving)]
-pub(crate) fn moved_fields(
-    alloc: Global,
-    way: Way<'_, '_>,
-    fields: &Keyed<Value>,
-) -> Result<Keyed<Value>, AllocError>
-    ensures { IfOk result (λ found. found ≡ fields_moved (place_by way.entry) fields.now) }
-{
-    let mut found = Vec::with_capacity(alloc, fields.len())?;
-    for field in fields.as_slice() {
-        let name = field.0.copied(alloc)?;
-        found.push((name, moved(alloc, way, &field.1)?))?;
-    }
-    Ok(Keyed::from_sorted(found))
-}
-
-// The File at a place, beside these files.
-fn file_at(
-    alloc: Global,
-    file: &FileVal,
-    place: Place,
-    secondary: Items<Value>,
-) -> Result<FileVal, AllocError>
-    ensures { IfOk result (λ found. found ≡ file_with file.now place secondary) }
-{
-    let basename = copy_if_any(alloc, &file.basename)?;
-    let checksum = copy_if_any(alloc, &file.checksum)?;
-    let contents = copy_if_any(alloc, &file.contents)?;
-    Ok(FileVal {
-        place,
-        basename,
-        checksum,
-        size: file.size,
-        contents,
-        secondary,
-    })
-}
-
-fn copy_if_any(alloc: Global, text: &Option<Text>) -> Result<Option<Text>, AllocError>
-    ensures { IfOk result (λ copy. copy ≡ text.now) }
-{
-    match text {
-        None => Ok(None),
-        Some(text) => Ok(Some(text.copied(alloc)?)),
+    fn place(&self, alloc: Global, place: &Place) -> Result<Place, AllocError> {
+        moved_place(alloc, *self, place)
     }
 }
 

@@ -16,9 +16,9 @@ use crate::turn::failing;
 use crate::turns::{last_first, put_next};
 use crate::{Cause, CollectCause};
 use command_line::{BuildError, Launch, build};
-use cwl_value::{Value, copy_fields};
-use input_files::{ContentsError, MOST_CONTENTS, heads_wanted, with_contents};
-use plain_data::{Items, Keyed, Text};
+use cwl_value::{MOST_CONTENTS, Value, copy_fields};
+use input_files::{ContentsError, heads_wanted, with_contents};
+use plain_data::{Items, Keyed, Text, copied_if_any};
 use proc_host::HostRequest;
 use std::alloc::{AllocError, Global};
 use std::mem;
@@ -170,16 +170,7 @@ fn kept_of(alloc: Global, launch: &Launch, inputs: Keyed<Value>) -> Result<Kept,
 {
     Ok(Kept {
         inputs,
-        stdout: copied(alloc, &launch.stdout)?,
-        stderr: copied(alloc, &launch.stderr)?,
+        stdout: copied_if_any(alloc, &launch.stdout)?,
+        stderr: copied_if_any(alloc, &launch.stderr)?,
     })
-}
-
-fn copied(alloc: Global, name: &Option<Text>) -> Result<Option<Text>, AllocError>
-    ensures { IfOk result (λ copy. copy ≡ name.now) }
-{
-    match name {
-        None => Ok(None),
-        Some(name) => Ok(Some(name.copied(alloc)?)),
-    }
 }

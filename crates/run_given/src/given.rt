@@ -11,7 +11,7 @@ use crate::stop::Stop;
 use cwl_value::Value;
 use document_links::Process;
 use end_words::{Exit, Fault};
-use plain_data::{Items, Keyed, Text};
+use plain_data::{Items, Keyed, Text, copied_if_any};
 use process_machine::World;
 use program_words::RunWords;
 use resource_hints::Resources;
@@ -59,21 +59,14 @@ impl Places {
     pub fn clone_in(&self, alloc: Global) -> Result<Places, AllocError> {
         let work = self.work.copied(alloc)?;
         let outdir = self.outdir.copied(alloc)?;
-        let archive = copy_of(alloc, &self.archive)?;
-        let times = copy_of(alloc, &self.times)?;
+        let archive = copied_if_any(alloc, &self.archive)?;
+        let times = copied_if_any(alloc, &self.times)?;
         Ok(Places {
             work,
             outdir,
             archive,
             times,
         })
-    }
-}
-
-fn copy_of(alloc: Global, path: &Option<Text>) -> Result<Option<Text>, AllocError> {
-    match path {
-        None => Ok(None),
-        Some(path) => Ok(Some(path.copied(alloc)?)),
     }
 }
 

@@ -1,6 +1,7 @@
 -- Graphs whose vertices stand apart: the first ones of them, and one more.
-use Rattle.std.specs.Prelude.{◌↔◌, IfErr, IfOk, IfSome, IsSome, IsTrue, is_some}
-use Rattle.std.proofs.Common.{◌≡◌, ◌≢◌, ◌∙◌, ℕ, zero, suc, ◌+◌, ◌<◌, ◌≤◌, true, false, List, [], ◌∷◌, ◌++◌, All, Option, Some, None, Result, Ok, Err, length, take, get_or, sym, refl, ap, subst, arith}
+use Rattle.std.specs.Prelude.{◌↔◌, IfErr, IfOk, IfSome, IsSome, IsTrue}
+use Rattle.std.specs.Global.{Vec}
+use Rattle.std.proofs.Common.{◌≡◌, ◌≢◌, ◌∙◌, ℕ, zero, suc, ◌+◌, ◌<◌, ◌≤◌, Bool, true, false, List, [], ◌∷◌, ◌++◌, All, Option, Some, None, Result, Ok, Err, length, take, get_or, sym, refl, ap, subst, arith}
 use Rattle.std.proofs.lemmas.List.{get_or-take, get_or_append_left, get_or_default, get_or_push, length_push}
 use Rattle.job_graph.specs.Unfold.{Fault}
 use Rattle.job_graph.specs.Unfolding.{Blames, fault_of}
@@ -15,6 +16,7 @@ use Rattle.plan_keeper.specs.Kept.{IsKeptApart}
 use Rattle.plan_keeper.specs.declared.planned.Planned.{Planned}
 use Rattle.run_plan.specs.Brought.{AreStaying, CanBeBrought, IsGraphApart, StaysApart}
 use Rattle.run_plan.specs.declared.kept.NextPlan.{NextPlan}
+use Rattle.run_plan.specs.inner.Kept.{IsKeptWith}
 
 taken_within : (k : ℕ) (all : List Vertex) (i : ℕ) → i < length (take k all) → (i < k) × (i < length all)
 taken_within zero all i within = absurd (omega (arith, within))
@@ -77,11 +79,10 @@ added_exactly graph job found stands kept = ((λ some. by found some kept), (λ 
     by None some kept = let never : false ≡ true = some in absurd cc
     by (Some more) some kept = subst IsGraphApart kept.1 (record { good = kept.0.good; apart = kept.0.apart })
 
--- what is brought up to date stays apart exactly where all the vertices stand apart
-pub staying_found : {E : Type 0} (old all : List Vertex) (result : Result (Option Planned) E) → AreApart old → AreStaying old all → IfOk result (λ found. IsSome found ↔ IsGraphApart all) →
-    IfOk result (λ found. IsSome found ↔ StaysApart old all)
-staying_found old all (Ok found) before staying exact = ((λ some. record { before = before; staying = staying; after = exact.0 some }), (λ it. exact.1 it.after))
-staying_found old all (Err error) before staying exact = tt
+-- the plan has flags exactly where its vertices stand apart
+pub flags_exactly : (made : Planned) (needed : Option (Vec Bool)) → IsKeptWith made needed → IsSome needed ↔ AreApart made.graph
+flags_exactly made None whole = ((λ never. absurd cc), (λ apart. absurd (whole apart)))
+flags_exactly made (Some flags) kept = ((λ some. kept.0.apart), (λ apart. refl))
 
 -- a plan that is made anew, where the last one can't be brought up to date
 pub anew_exactly : {E : Type 0} (P : Type 0) (result : Result NextPlan E) → IfOk result (λ next. next.brought ≡ false) → (P → ⊥) → IfOk result (λ next. IsTrue next.brought ↔ P)
@@ -92,9 +93,6 @@ anew_exactly P (Err error) anew cannot = tt
 pub brought_as : {E : Type 0} (P Q : Type 0) (result : Result NextPlan E) → (P ↔ Q) → IfOk result (λ next. IsTrue next.brought ↔ P) → IfOk result (λ next. IsTrue next.brought ↔ Q)
 brought_as P Q (Ok next) same exact = ((λ yes. same.0 (exact.0 yes)), (λ can. exact.1 (same.1 can)))
 brought_as P Q (Err error) same exact = tt
-
-pub none_exactly : {T : Type 0} (P Q : Type 0) (found : Option T) → found ≡ None → (Q → ⊥) → IsSome found ↔ (P × Q)
-none_exactly {T} P Q found is cannot = ((λ some. let never : false ≡ true = ap (λ (o : Option T). is_some o) (sym is) ∙ some in absurd cc), (λ both. absurd (cannot both.1)))
 
 pub found_as : {T : Type 0} (F P Q : Type 0) (found : Option T) → (P ↔ Q) → (IsSome found ↔ (F × P)) → IsSome found ↔ (F × Q)
 found_as F P Q found same exact = ((λ some. ((exact.0 some).0, same.0 (exact.0 some).1)), (λ both. exact.1 (both.0, same.1 both.1)))

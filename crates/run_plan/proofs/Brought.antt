@@ -1,13 +1,13 @@
 -- A graph that is brought up to date, one vertex after the other.
 use Rattle.std.specs.List.{zip}
-use Rattle.std.proofs.Common.{◌≡◌, ◌≢◌, ◌∙◌, inl, inr, subst, ℕ, suc, ◌+◌, ◌<◌, ◌≤◌, Bool, List, [], ◌∷◌, ◌++◌, Option, Some, length, map, take, get_or, set, sym, refl, ap, ap₂, ⊎_elim, arith, get_or-set_other, get_or-set_same}
+use Rattle.std.proofs.Common.{◌≡◌, ◌≢◌, ◌∙◌, inl, inr, subst, ℕ, suc, ◌+◌, ◌<◌, ◌≤◌, Bool, List, [], ◌∷◌, ◌++◌, Some, length, map, take, get_or, sym, refl, ap, ap₂, ⊎_elim, arith}
 use Rattle.std.proofs.Math.Seq.{take-suc}
 use Rattle.std.proofs.lemmas.Bool.{cases_lt}
 use Rattle.std.proofs.lemmas.List.{get_or-map, get_or-take, get_or_default, take_all, length-map, length-take-le, same_lists}
 use Rattle.std.proofs.lemmas.Slice.Zip.{get_or-zip, length-zip}
 use Rattle.job_graph.specs.Jobs.{Job}
-use Rattle.job_graph.specs.KnownJobs.{jobs_in, known_of}
-use Rattle.job_graph.specs.PresentJobGraph.{needed_among, present_job_graph, vertex_of as present_vertex}
+use Rattle.job_graph.specs.KnownJobs.{job_of, jobs_in, known_of}
+use Rattle.job_graph.specs.PresentJobGraph.{is_needed, needed_among, present_job_graph, vertex_of as present_vertex}
 use Rattle.job_graph.specs.Unfold.{Known, Resolved, known_from}
 use Rattle.job_graph.specs.Words.{Fields}
 use Rattle.job_graph.specs.declared.costs.Costs.{Costs}
@@ -18,20 +18,7 @@ use Rattle.plan_checker.proofs.SumsBelow.{below_or_last}
 use Rattle.plan_keeper.specs.Kept.{freed}
 use Rattle.run_plan.specs.Brought.{AreStaying, StaysOrIsFreed}
 use Rattle.run_plan.specs.inner.Again.{AreFirst, IsBrought, vertex_of, vertices_of}
-
--- one that is free now
-pub as_freed : (old new : List Vertex) (number : ℕ) (job : Vertex) (held parents : List ℕ) (costs : Costs) (needed : Bool) → number < length old → job ≡ vertex old number → held ≡ job.parents →
-    held ≡ parents → costs.load ≡ Some 0 → new ≡ set old number (freed (vertex old number) costs.compute needed) → IsBrought old new number (vertex_of parents costs needed)
-as_freed old new number job held parents costs needed there read has same free is =
-    let its : Option ℕ → List ℕ → Vertex = λ load ps. record { load = load; compute = costs.compute; parents = ps; needed = needed } in
-    let parents_are : (vertex old number).parents ≡ parents = ap (λ (v : Vertex). v.parents) (sym read) ∙ sym has ∙ same in
-    record {
-      there =
-          ap (λ (graph : List Vertex). vertex graph number) is
-          ∙ get_or-set_same old number (freed (vertex old number) costs.compute needed) no_vertex there
-          ∙ ap₂ its (sym free) parents_are;
-      others = λ i other. ap (λ (graph : List Vertex). vertex graph i) is ∙ get_or-set_other old number i (freed (vertex old number) costs.compute needed) no_vertex other;
-    }
+use Rattle.run_plan.specs.inner.Kept.{flags_in}
 
 -- the first n vertices are as they should be
 pub record AreBroughtBelow (graph all : List Vertex) (count n : ℕ) : Type 0 where
@@ -70,10 +57,6 @@ brought_on graph all count from n before more = record {
       (cases_lt i from);
 }
 
--- none, before one has been gone through
-pub none_brought : (graph all : List Vertex) (count : ℕ) → length graph ≡ count → AreBroughtBelow graph all count 0
-none_brought graph all count as_many = record { as_many = as_many; below = λ i below. absurd (omega (arith, below)) }
-
 -- once all have been gone through
 pub all_brought : (graph all : List Vertex) (count n : ℕ) → AreBroughtBelow graph all count n → count ≤ n → count ≤ length all → AreFirst graph all
 all_brought graph all count n brought done within =
@@ -88,9 +71,6 @@ all_brought graph all count n brought done within =
 pub record AreStayingBelow (initial graph all : List Vertex) (n : ℕ) : Type 0 where
   pub each : (i : ℕ) → i < n → StaysOrIsFreed (vertex initial i) (vertex all i)
   pub left : (i : ℕ) → n ≤ i → vertex graph i ≡ vertex initial i
-
-pub none_freed : (initial all : List Vertex) (n : ℕ) → ((i : ℕ) → 0 ≤ i → i < n → vertex initial i ≡ vertex all i) → AreStayingBelow initial initial all n
-none_freed initial all n same = record { each = λ i hi. inl (sym (same i (omega arith) hi)); left = λ i past. refl }
 
 -- one more that is freed, and those from there on that stay
 pub staying_more : (initial graph new all : List Vertex) (n next : ℕ) (parents : List ℕ) (costs : Costs) (needed : Bool) → AreStayingBelow initial graph all n →
@@ -153,6 +133,14 @@ module _ (known : List KnownJob) (costs : List Costs) (needed : List Bool) (as_m
       let all = zipped in
       sym (get_or-map its (zip known (zip costs needed)) i (job, (cost, flag)) no_vertex (omega (arith, hi, all)) ∙ ap its outer)
 
+-- their flags
+pub flags_are : (known : List KnownJob) (costs : List Costs) (needed : List Bool) → length costs ≡ length known → length needed ≡ length known → flags_in (vertices_of known costs needed) ≡ needed
+flags_are [] costs [] as_many flags = refl
+flags_are [] costs (b ∷ needed) as_many flags = absurd (omega (arith, flags))
+flags_are (k ∷ known) [] needed as_many flags = absurd (omega (arith, as_many))
+flags_are (k ∷ known) (c ∷ costs) [] as_many flags = absurd (omega (arith, flags))
+flags_are (k ∷ known) (c ∷ costs) (b ∷ needed) as_many flags = ap (λ (rest : List Bool). b ∷ rest) (flags_are known costs needed (omega (arith, as_many)) (omega (arith, flags)))
+
 -- the first n of them, one after the other
 pub first_more : (graph all : List Vertex) (n : ℕ) (job : Vertex) → graph ≡ take n all → n < length all → job ≡ vertex all n → graph ++ job ∷ [] ≡ take (n + 1) all
 first_more graph all n job first within is =
@@ -175,3 +163,11 @@ module _ (learned : List Resolved) (outs : Fields) where
   are_present known costs needed jobs are parents flags =
       ap (vertices_of known costs) (flags ∙ ap (needed_among learned outs) (sym are)) ∙ by_parts known costs
       ∙ ap (λ (ks : List Known). map (present_vertex learned outs) (zip ks costs)) parents
+
+  -- and so their flags are
+  pub flags_present : (known : List KnownJob) (costs : List Costs) (needed : List Bool) (jobs : List Job) (graph : List Vertex) → jobs_in known ≡ jobs → needed ≡ needed_among learned outs jobs →
+      length costs ≡ length jobs → graph ≡ vertices_of known costs needed → needed ≡ flags_in graph
+  flags_present known costs needed jobs graph are flags each is =
+      let count : length known ≡ length jobs = sym (length-map known (λ (k : KnownJob). job_of k.job)) ∙ ap (λ (list : List Job). length list) are in
+      let as_many : length needed ≡ length jobs = ap (λ (list : List Bool). length list) flags ∙ length-map jobs (λ (job : Job). is_needed learned outs job.place) in
+      sym (ap flags_in is ∙ flags_are known costs needed (omega (arith, each, count)) (omega (arith, as_many, count)))

@@ -1,13 +1,12 @@
 -- A graph that is brought up to date where few jobs were touched.
 use Rattle.std.specs.Prelude.{◌↔◌, drop}
-use Rattle.std.proofs.Common.{drop-cons, ◌≡◌, ◌≢◌, ◌∙◌, ◌⊎◌, inl, inr, subst, ℕ, zero, suc, ◌+◌, ◌<◌, ◌≤◌, Bool, false, List, [], ◌∷◌, ◌++◌, length, map, take, get_or, set, sym, refl, ap, ⊎_elim, arith}
+use Rattle.std.proofs.Common.{drop-cons, ◌≡◌, ◌≢◌, ◌∙◌, ◌⊎◌, inl, inr, subst, ℕ, zero, suc, ◌+◌, ◌<◌, ◌≤◌, Bool, false, List, [], ◌∷◌, ◌++◌, Some, length, map, take, get_or, set, sym, refl, ap, ⊎_elim, arith}
 use Rattle.std.proofs.Math.Seq.{take-suc}
 use Rattle.std.proofs.Math.ListN.{get_or-eq_default}
-use Rattle.std.proofs.lemmas.Bool.{cases_eq}
+use Rattle.std.proofs.lemmas.Bool.{cases_eq, cases_lt}
 use Rattle.std.proofs.lemmas.List.{get_or-append_right, get_or_append_left, get_or-map, get_or-set_other, get_or-set_same, get_or-take, get_or_default, length-append, length-map, length-set, length-take-le, map-set, same_lists, set-get_or, set_past, take_all, take_more}
 use Rattle.job_graph.specs.Jobs.{Job}
 use Rattle.job_graph.specs.KnownJobs.{known_of}
-use Rattle.job_graph.specs.PresentJobGraph.{AreWithin}
 use Rattle.job_graph.specs.Unfold.{Known, known_from}
 use Rattle.job_graph.specs.declared.costs.Costs.{Costs}
 use Rattle.job_graph.specs.declared.growth.KnownJob.{KnownJob}
@@ -15,13 +14,16 @@ use Rattle.plan_checker.specs.Graph.{no_vertex, vertex}
 use Rattle.plan_checker.specs.declared.vertex.Vertex.{Vertex}
 use Rattle.plan_checker.proofs.SumsBelow.{below_or_last}
 use Rattle.plan_keeper.specs.Free.{IsFree}
-use Rattle.plan_keeper.specs.Kept.{IsKeptApart}
-use Rattle.plan_keeper.specs.declared.planned.Planned.{Planned}
 use Rattle.run_plan.specs.Brought.{AreFree, AreFreeing, AreStaying, StaysOrIsFreed}
 use Rattle.run_plan.specs.inner.Again.{IsBrought, vertex_of, vertices_of}
 use Rattle.run_plan.specs.Touched.{AreOfFirst, costs_in, patched}
-use Rattle.run_plan.specs.inner.Flagged.{AreFlaggedBelow, HaveParents, IsFlaggedOrFree, parents_at}
+use Rattle.run_plan.specs.inner.Flagged.{AreFlaggedBelow, HaveParents, IsFlaggedEither, IsFlaggedOrFree, IsFreedAs, parents_at}
+use Rattle.run_plan.specs.inner.Kept.{AreSameBetween, flags_in}
 use Rattle.run_plan.proofs.Brought.{vertices_count}
+
+pub patched_count : (costs : List Costs) (changed : List (ℕ × Costs)) → length (patched costs changed) ≡ length costs
+patched_count costs [] = refl
+patched_count costs (one ∷ changed) = patched_count (set costs one.0 one.1) changed ∙ length-set costs one.0 one.1
 
 -- one more that has changed
 patched_last : (costs : List Costs) (changed : List (ℕ × Costs)) (one : ℕ × Costs) → patched costs (changed ++ one ∷ []) ≡ set (patched costs changed) one.0 one.1
@@ -71,23 +73,12 @@ pub have_parents : (graph : List Vertex) (jobs : List Job) (known : List KnownJo
 have_parents graph jobs known is first i hi =
     first.1 i hi ∙ ap (λ (all : List Known). get_or (map (λ (k : Known). k.parents) all) i []) (sym is) ∙ ap (λ (all : List (List ℕ)). get_or all i []) (parents_by_job known)
 
--- one whose flag is right
-pub flagged_there : (graph : List Vertex) (number : ℕ) (parents : List ℕ) (job : Vertex) (needed : Bool) → job ≡ vertex graph number → (vertex graph number).parents ≡ parents →
-    job ≡ vertex_of job.parents (costs_in job) needed → IsBrought graph graph number (vertex_of parents (costs_in (vertex graph number)) needed)
-flagged_there graph number parents job needed read its is = record {
-  there = sym read ∙ is ∙ ap (λ (v : Vertex). vertex_of v.parents (costs_in v) needed) read ∙ ap (λ (ps : List ℕ). vertex_of ps (costs_in (vertex graph number)) needed) its;
-  others = λ i differ. refl;
-}
-
 -- at its own costs
 pub costs_same : (old new : List Vertex) (number : ℕ) (parents : List ℕ) (needed : Bool) → number < length old → length new ≡ length old →
     IsBrought old new number (vertex_of parents (costs_in (vertex old number)) needed) → map costs_in new ≡ map costs_in old
 costs_same old new number parents needed there many brought =
     costs_brought old new number parents (costs_in (vertex old number)) needed there many brought ∙ sym (map-set costs_in old number (vertex old number))
     ∙ ap (map costs_in) (set-get_or old number no_vertex)
-
-pub within_kept : (made : Planned) (number : ℕ) → IsKeptApart made → number < length made.graph → AreWithin (costs_in (vertex made.graph number))
-within_kept made number kept there = record { load = (kept.good number there).load_cost; compute = (kept.good number there).compute_cost }
 
 pub parents_are : (known : List KnownJob) (n : ℕ) (job : KnownJob) → n < length known → job ≡ get_or known n job → job.parents ≡ parents_at known n
 parents_are known n job within is = ap (λ (k : KnownJob). k.parents) is ∙ sym (get_or-map (λ (k : KnownJob). k.parents) known n job [] within)
@@ -205,26 +196,47 @@ drop_past (one ∷ changed) (suc i) past = drop_past changed i (omega (arith, pa
 pub freeing_done : (first costs : List Costs) (changed : List (ℕ × Costs)) (i : ℕ) → (AreFreeing first changed ↔ AreFreeing costs (drop i changed)) → length changed ≤ i → AreFreeing first changed
 freeing_done first costs changed i it past = it.1 (subst (AreFreeing costs) (sym (drop_past changed i past)) tt)
 
--- a vertex that stays or is free, after one more step
-pub freed_on : (old mid new : Vertex) → (mid ≡ old) ⊎ IsFree mid → (new ≡ mid) ⊎ IsFree new → (new ≡ old) ⊎ IsFree new
-freed_on old mid new before now =
+-- a vertex that stays or is freed, after one more step
+pub freed_on : (needed : List Bool) (old mid new : List Vertex) (n : ℕ) → (vertex mid n ≡ vertex old n) ⊎ IsFreedAs needed mid n → (vertex new n ≡ vertex mid n) ⊎ IsFreedAs needed new n →
+    (vertex new n ≡ vertex old n) ⊎ IsFreedAs needed new n
+freed_on needed old mid new n before now =
     ⊎_elim
-    (λ (same : new ≡ mid). ⊎_elim (λ (stays : mid ≡ old). inl (same ∙ stays)) (λ (free : IsFree mid). inr (subst IsFree (sym same) free)) before)
-    (λ (free : IsFree new). inr free)
+    (λ (same : vertex new n ≡ vertex mid n).
+    ⊎_elim
+    (λ (stays : vertex mid n ≡ vertex old n). inl (same ∙ stays))
+    (λ freed. inr (ap (λ (v : Vertex). v.load) same ∙ freed.0, ap (λ (v : Vertex). v.needed) same ∙ freed.1))
+    before)
+    (λ freed. inr freed)
     now
 
--- those that a brought vertex leaves
-pub others_left : (old new : List Vertex) (number : ℕ) (job : Vertex) → IsBrought old new number job → IsFree job → (n : ℕ) → (vertex new n ≡ vertex old n) ⊎ IsFree (vertex new n)
-others_left old new number job brought free n =
+-- those that a freed vertex leaves
+pub others_left : (old new : List Vertex) (number : ℕ) (parents : List ℕ) (costs : Costs) (needed : List Bool) → costs.load ≡ Some 0 →
+    IsBrought old new number (vertex_of parents costs (get_or needed number false)) → (n : ℕ) → (vertex new n ≡ vertex old n) ⊎ IsFreedAs needed new n
+others_left old new number parents costs needed free brought n =
     ⊎_elim
-    (λ (e : n ≡ number). inr (subst IsFree (sym (ap (vertex new) e ∙ brought.there)) free))
+    (λ (e : n ≡ number).
+    let there : vertex new n ≡ vertex_of parents costs (get_or needed number false) = ap (vertex new) e ∙ brought.there in
+    inr (ap (λ (v : Vertex). v.load) there ∙ free, ap (λ (v : Vertex). v.needed) there ∙ ap (λ (m : ℕ). get_or needed m false) (sym e)))
     (λ (e : n ≢ number). inl (brought.others n e))
     (cases_eq n number)
+
+-- what stays has the flag that it had, and what is freed the one that it has now
+pub flagged_either : (before needed : List Bool) (old new : List Vertex) (n : ℕ) → before ≡ flags_in old → n < length old → (vertex new n ≡ vertex old n) ⊎ IsFreedAs needed new n →
+    IsFlaggedEither before needed new n
+flagged_either before needed old new n are there now =
+    ⊎_elim
+    (λ (same : vertex new n ≡ vertex old n).
+    inl (ap (λ (v : Vertex). v.needed) same ∙ sym (get_or-map (λ (v : Vertex). v.needed) old n no_vertex false there) ∙ ap (λ (flags : List Bool). get_or flags n false) (sym are)))
+    (λ freed. inr freed.1)
+    now
 
 -- the first n vertices are flagged as they should be or free, and the others are as they were
 pub record AreFlagsBelow (needed : List Bool) (initial graph : List Vertex) (n : ℕ) : Type 0 where
   pub each : (i : ℕ) → i < n → IsFlaggedOrFree needed initial i
   pub left : (i : ℕ) → n ≤ i → vertex graph i ≡ vertex initial i
+
+pub no_flags : (needed : List Bool) (initial : List Vertex) → AreFlagsBelow needed initial initial 0
+no_flags needed initial = record { each = λ n below. absurd (omega (arith, below)); left = λ n ge. refl }
 
 pub flags_more : (needed : List Bool) (initial graph new : List Vertex) (n : ℕ) (job : Vertex) → AreFlagsBelow needed initial graph n → IsBrought graph new n job → IsFlaggedOrFree needed graph n →
     AreFlagsBelow needed initial new (n + 1)
@@ -245,9 +257,40 @@ pub not_flagged : (needed : List Bool) (initial graph : List Vertex) (n : ℕ) �
 not_flagged needed initial graph n below never flagged =
     never (subst (λ (v : Vertex). (v.needed ≡ get_or needed n false) ⊎ IsFree v) (sym (below.left n (omega arith))) flagged)
 
+-- those from a number on whose flags are as they were
+module _ (known : List KnownJob) (before needed : List Bool) (initial graph : List Vertex) (from number : ℕ)
+    (either : (n : ℕ) → n < length initial → IsFlaggedEither before needed initial n) (parents : HaveParents known graph) (count : length graph ≡ length initial)
+    (flags : AreFlagsBelow needed initial graph from) (same : AreSameBetween from number before needed) (on : from ≤ number) (within : number ≤ length initial) where
+  flag_at : (n : ℕ) → from ≤ n → n < number → (vertex initial n).needed ≡ get_or needed n false
+  flag_at n past below =
+      ⊎_elim
+      (λ (was : (vertex initial n).needed ≡ get_or before n false). was ∙ same n past below)
+      (λ now. now)
+      (either n (omega (arith, below, within)))
+
+  pub flagged_on : AreFlaggedBelow known needed graph from → AreFlaggedBelow known needed graph number
+  flagged_on flagged n below =
+      ⊎_elim
+      (λ (lt : n < from). flagged n lt)
+      (λ (past : from ≤ n).
+      let its : List ℕ → Bool → Vertex = λ ps b. vertex_of ps (costs_in (vertex graph n)) b in
+      ap (λ (ps : List ℕ). its ps (vertex graph n).needed) (parents n (omega (arith, below, within, count)))
+      ∙ ap (its (parents_at known n)) (ap (λ (v : Vertex). v.needed) (flags.left n past) ∙ flag_at n past below))
+      (cases_lt n from)
+
+  pub flags_on : AreFlagsBelow needed initial graph number
+  flags_on = record {
+    each = λ n below.
+        ⊎_elim
+        (λ (lt : n < from). flags.each n lt)
+        (λ (past : from ≤ n). inl (flag_at n past below))
+        (cases_lt n from);
+    left = λ n ge. flags.left n (omega (arith, ge, on));
+  }
+
 -- the vertices of known jobs, by what has become of the graph before: its costs are brought up to date, and a flag is brought up to date where it can be
 module _ (known : List KnownJob) (needed : List Bool) (old mid : List Vertex) (later : List Costs) (each : length old + length later ≡ length known) (flags : length needed ≡ length known)
-    (count : length mid ≡ length old) (parents : HaveParents known old) (its_parents : HaveParents known mid) (freed : (n : ℕ) → (vertex mid n ≡ vertex old n) ⊎ IsFree (vertex mid n)) where
+    (count : length mid ≡ length old) (parents : HaveParents known old) (its_parents : HaveParents known mid) (freed : (n : ℕ) → (vertex mid n ≡ vertex old n) ⊎ IsFreedAs needed mid n) where
   abbrev all_after : List Vertex
   all_after = vertices_of known (map costs_in mid ++ later) needed
 
@@ -271,7 +314,7 @@ module _ (known : List KnownJob) (needed : List Bool) (old mid : List Vertex) (l
       let mid_is : vertex all_after n ≡ vertex mid n =
       after_at n there ∙ ap (λ (ps : List ℕ). vertex_of ps (costs_in (vertex mid n)) (get_or needed n false)) (sym (its_parents n (omega (arith, there, count))))
       ∙ ap (λ (b : Bool). vertex_of (vertex mid n).parents (costs_in (vertex mid n)) b) (sym flag) in
-      ⊎_elim (λ (same : vertex mid n ≡ vertex old n). inl (mid_is ∙ same)) (λ (free : IsFree (vertex mid n)). freed_after n there free) (freed n)
+      ⊎_elim (λ (same : vertex mid n ≡ vertex old n). inl (mid_is ∙ same)) (λ (now : IsFreedAs needed mid n). freed_after n there now.0) (freed n)
 
   pub staying_by_flags : ((n : ℕ) → n < length old → IsFlaggedOrFree needed mid n) → AreStaying old (vertices_of known (map costs_in mid ++ later) needed)
   staying_by_flags flagged = record {
@@ -285,7 +328,7 @@ module _ (known : List KnownJob) (needed : List Bool) (old mid : List Vertex) (l
       (λ (same : vertex all_after n ≡ vertex old n).
       ⊎_elim
       (λ (stays : vertex mid n ≡ vertex old n). inl (ap (λ (v : Vertex). v.needed) (stays ∙ sym same ∙ after_at n there)))
-      (λ (free : IsFree (vertex mid n)). inr free)
+      (λ (now : IsFreedAs needed mid n). inr now.0)
       (freed n))
       (λ now. inr (ap (λ (v : Vertex). v.load) (sym (after_at n there)) ∙ now.0))
       (staying.each n there)

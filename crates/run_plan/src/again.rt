@@ -45,7 +45,7 @@ pub fn plan_on(
         None => plan_anew(alloc, known, costs, None),
         Some(kept) => match kept.into_apart() {
             Err(made) => plan_anew(alloc, known, costs, Some(&made.charges)),
-            Ok(made) => plan_by(alloc, known, costs, needed.as_slice(), made),
+            Ok((made, _before)) => plan_by(alloc, known, costs, needed, made),
         },
     }
 }
@@ -76,12 +76,13 @@ fn plan_by(
     alloc: Global,
     known: &Unfolding<'_>,
     costs: &[Costs],
-    needed: &[bool],
+    needed: Vec<bool>,
     made: Planned,
 ) -> Result<NextPlan, UnfoldError>
     requires kept { IsKeptApart made }
     requires each { length costs.now ≡ length known.now.known }
-    requires needed { needed.now ≡ needed_among known.now.learned known.now.outs known.now.known }
+    requires needed { needed.items
+        ≡ needed_among known.now.learned known.now.outs known.now.known }
     requires within { All AreWithin costs.now }
     ensures ok { IfOk result (λ next. IsPlanOf
         (present_job_graph known.now.learned known.now.known known.now.outs costs.now) next.plan) }
@@ -90,9 +91,9 @@ fn plan_by(
     ensures err { IfErr result (Blames known.now.refused) }
 {
     kept_is_planned();
-    match brought(alloc, made, known.known(), costs, needed)? {
+    match brought(alloc, made, known.known(), costs, needed.as_slice())? {
         Some(made) => Ok(NextPlan {
-            plan: KeptPlan::apart(made),
+            plan: KeptPlan::apart(made, needed),
             brought: true,
         }),
         None => plan_anew(alloc, known, costs, None),

@@ -4,15 +4,16 @@ ghost use Rattle.job_graph.specs.PresentJobGraph.{AreWithin, needed_among, prese
 ghost use Rattle.job_graph.specs.Unfolding.{Blames};
 ghost use Rattle.job_graph.specs.declared.fault.UnfoldError.{UnfoldError};
 ghost use Rattle.plan_checker.specs.Graph.{vertex};
-ghost use Rattle.plan_keeper.specs.Free.{IsFree};
 ghost use Rattle.plan_keeper.specs.Kept.{IsKeptApart};
 ghost use Rattle.run_plan.specs.Brought.{AreFree, AreFreeing, CanBeBrought, IsGraphApart, StaysApart};
 ghost use Rattle.run_plan.specs.inner.Again.{IsBrought, vertex_of, vertices_of};
 ghost use Rattle.run_plan.specs.Planned.{IsPlanOf};
 ghost use Rattle.run_plan.specs.Touched.{AreOfFirst, costs_after, costs_in, graph_in, patched};
-ghost use Rattle.run_plan.specs.inner.Flagged.{AreFlaggedBelow, HaveParents, IsFlaggedOrFree, parents_at};
+ghost use Rattle.run_plan.specs.inner.Flagged.{AreFlaggedBelow, HaveParents, IsFlaggedEither, IsFlaggedOrFree, IsFreedAs, parents_at};
+ghost use Rattle.run_plan.specs.inner.Kept.{flags_in};
 
 use crate::again::{added, bring_one};
+use crate::flags::first_other;
 use crate::kept::KeptPlan;
 use job_graph::{Costs, KnownJob, UnfoldError, Unfolding};
 use plain_data::Items;
@@ -51,23 +52,24 @@ pub fn plan_touched(
     let needed = known.needed()?;
     match apart_of(mem::replace(last, None)) {
         None => Ok(None),
-        Some(made) => {
-            let found = plan_few(alloc, known, changed, later, needed.as_slice(), made)?;
+        Some(apart) => {
+            let found = plan_few(alloc, known, changed, later, needed, apart)?;
             Ok(found)
         }
     }
 }
 
-/// The plan, if there is one that can be brought up to date.
-fn apart_of(last: Option<KeptPlan>) -> Option<Planned>
-    ensures kept { IfSome result (λ made. IsKeptApart made × (made.graph ≡ graph_in last)) }
+/// The plan, if there is one that can be brought up to date, and whether each vertex of its graph is needed.
+fn apart_of(last: Option<KeptPlan>) -> Option<(Planned, Vec<bool>)>
+    ensures kept { IfSome result (λ kept. IsKeptApart kept.0 × (kept.0.graph ≡ graph_in last)
+        × (kept.1.items ≡ flags_in kept.0.graph)) }
     ensures exact { MatchOption result ((graph : _) → ¬ CanBeBrought last graph)
-        (λ made. (graph : _) → CanBeBrought last graph ↔ StaysApart made.graph graph) }
+        (λ kept. (graph : _) → CanBeBrought last graph ↔ StaysApart kept.0.graph graph) }
 {
     match last {
         None => None,
         Some(kept) => match kept.into_apart() {
-            Ok(made) => Some(made),
+            Ok(kept) => Some(kept),
             Err(made) => {
                 mem::drop(made);
                 None
@@ -76,29 +78,41 @@ fn apart_of(last: Option<KeptPlan>) -> Option<Planned>
     }
 }
 
-/// Brings the plan before up to date.
+/// Brings the plan before up to date, which has these flags.
 fn plan_few(
     alloc: Global,
     known: &Unfolding<'_>,
     changed: &[(usize, Costs)],
     later: &[Costs],
-    needed: &[bool],
-    made: Planned,
+    needed: Vec<bool>,
+    apart: (Planned, Vec<bool>),
 ) -> Result<Option<KeptPlan>, AllocError>
-    requires kept { IsKeptApart made }
-    requires each { length made.graph + length later.now ≡ length known.now.known }
-    requires first { AreOfFirst made.graph known.now.known }
-    requires needed { needed.now ≡ needed_among known.now.learned known.now.outs known.now.known }
+    requires kept { IsKeptApart apart.0 }
+    requires flags { apart.1.items ≡ flags_in apart.0.graph }
+    requires each { length apart.0.graph + length later.now ≡ length known.now.known }
+    requires first { AreOfFirst apart.0.graph known.now.known }
+    requires needed { needed.items
+        ≡ needed_among known.now.learned known.now.outs known.now.known }
     ensures ok { IfOk result (λ found. IfSome found (IsPlanOf (present_job_graph known.now.learned
-        known.now.known known.now.outs (costs_after made.graph changed.now later.now)))) }
+        known.now.known known.now.outs (costs_after apart.0.graph changed.now later.now)))) }
     ensures brought { IfOk result (λ found. IsSome found
-        ↔ (AreFreeing (map costs_in made.graph) changed.now
-        × StaysApart made.graph (present_job_graph known.now.learned
-        known.now.known known.now.outs (costs_after made.graph changed.now later.now)))) }
+        ↔ (AreFreeing (map costs_in apart.0.graph) changed.now
+        × StaysApart apart.0.graph (present_job_graph known.now.learned
+        known.now.known known.now.outs (costs_after apart.0.graph changed.now later.now)))) }
 {
     kept_is_planned();
-    match brought(alloc, made, known.known(), changed, later, needed)? {
-        Some(made) => Ok(Some(KeptPlan::apart(made))),
+    let (made, flags) = apart;
+    let before = flags.as_slice();
+    match brought(
+        alloc,
+        made,
+        before,
+        known.known(),
+        changed,
+        later,
+        needed.as_slice(),
+    )? {
+        Some(made) => Ok(Some(KeptPlan::apart(made, needed))),
         None => Ok(None),
     }
 }
@@ -107,12 +121,14 @@ fn plan_few(
 fn brought(
     alloc: Global,
     made: Planned,
+    before: &[bool],
     known: &[KnownJob<'_>],
     changed: &[(usize, Costs)],
     later: &[Costs],
     needed: &[bool],
 ) -> Result<Option<Planned>, AllocError>
     requires kept { IsKeptApart made }
+    requires before { before.now ≡ flags_in made.graph }
     requires each { length made.graph + length later.now ≡ length known.now }
     requires parents { HaveParents known.now made.graph }
     requires needed { length needed.now ≡ length known.now }
@@ -127,7 +143,7 @@ fn brought(
     if !bring_changed(alloc, &mut made, known, changed, needed) {
         return Ok(None);
     }
-    if !bring_flags(alloc, &mut made, known, needed) {
+    if !bring_flags(alloc, &mut made, before, known, needed) {
         return Ok(None);
     }
     add_later(alloc, made, known, later, needed)
@@ -152,7 +168,7 @@ fn bring_changed(
         ≡ patched (map costs_in made.old.graph) changed.now }
     ensures exact { IsTrue result ↔ AreFreeing (map costs_in made.old.graph) changed.now }
     ensures freed { IsTrue result → (n : ℕ) → (vertex made.new.graph n
-        ≡ vertex made.old.graph n) ⊎ IsFree (vertex made.new.graph n) }
+        ≡ vertex made.old.graph n) ⊎ IsFreedAs needed.now made.new.graph n }
 {
     for one in changed {
         if !bring_costs(alloc, made, known, one.0, one.1, needed) {
@@ -184,7 +200,7 @@ fn bring_costs(
     ensures exact { IsTrue result ↔ (AreFree costs
         ⊎ (slice_index_or (map costs_in made.old.graph) number costs ≡ costs)) }
     ensures freed { IsTrue result → (n : ℕ) → (vertex made.new.graph n
-        ≡ vertex made.old.graph n) ⊎ IsFree (vertex made.new.graph n) }
+        ≡ vertex made.old.graph n) ⊎ IsFreedAs needed.now made.new.graph n }
 {
     if number >= made.graph.vertices().len() {
         return true;
@@ -221,9 +237,18 @@ fn are_free(costs: Costs) -> bool
     costs.load == Some(0) && 1 <= costs.compute && costs.compute <= MOST_COST
 }
 
-/// Brings the vertices up to date that are needed no more. Returns whether they are.
-fn bring_flags(alloc: Global, made: &mut Planned, known: &[KnownJob<'_>], needed: &[bool]) -> bool
+/// Brings the vertices up to date that are needed no more; each one is needed as it was before, or as it is now. Returns whether they are.
+fn bring_flags(
+    alloc: Global,
+    made: &mut Planned,
+    before: &[bool],
+    known: &[KnownJob<'_>],
+    needed: &[bool],
+) -> bool
     requires kept { IsKeptApart made.old }
+    requires before { length before.now ≡ length made.old.graph }
+    requires either { (n : ℕ) → n < length made.old.graph
+        → IsFlaggedEither before.now needed.now made.old.graph n }
     requires known { length made.old.graph ≤ length known.now }
     requires parents { HaveParents known.now made.old.graph }
     requires needed { length needed.now ≡ length known.now }
@@ -236,11 +261,12 @@ fn bring_flags(alloc: Global, made: &mut Planned, known: &[KnownJob<'_>], needed
     ensures exact { IsTrue result ↔ ((n : ℕ) → n < length made.old.graph
         → IsFlaggedOrFree needed.now made.old.graph n) }
 {
-    let count = made.graph.vertices().len();
-    for number in 0..count {
+    let mut number = first_other(before, needed, 0);
+    while number < before.len() {
         if !bring_flag(alloc, made, known, needed, number) {
             return false;
         }
+        number = first_other(before, needed, number + 1);
     }
     true
 }

@@ -2,6 +2,7 @@
 ghost use Rattle.std.specs.Prelude.{◌≡◌, ◌↔◌, IfErr, IfOk, IsTrue};
 ghost use Rattle.plan_keeper.specs.Apart.{AreApart};
 ghost use Rattle.plan_keeper.specs.Kept.{IsKeptApart};
+ghost use Rattle.run_plan.specs.inner.Kept.{flags_in};
 
 use plan_keeper::Planned;
 use std::marker::Model;
@@ -11,21 +12,19 @@ use std::marker::Model;
 #[derive(Drop)]
 pub struct KeptPlan {
     made: Planned,
-    stands_apart: bool,
+    /// Whether each vertex is needed, if they stand apart: side by side, so that those that change are found without a look at the vertices.
+    needed: Option<Vec<bool>>,
 }
 
 impl Model for KeptPlan {
-    ghost use Rattle.std.specs.Prelude.{◌≡◌, true};
     ghost use Rattle.plan_keeper.specs.declared.planned.Planned.{Planned};
-    ghost use Rattle.plan_keeper.specs.Apart.{AreApart};
-    ghost use Rattle.plan_keeper.specs.Kept.{IsKeptApart};
+    ghost use Rattle.run_plan.specs.inner.Kept.{IsKeptWith};
 
     ghost Value = { Planned };
 
     ghost view = { λ fields. fields.made };
 
-    ghost invariant = { λ fields. (fields.stands_apart ≡ true → IsKeptApart fields.made)
-        × (AreApart fields.made.graph → fields.stands_apart ≡ true) };
+    ghost invariant = { λ fields. IsKeptWith fields.made fields.needed };
 }
 
 /// The plan that comes next, and how it came to be.
@@ -37,14 +36,15 @@ pub struct NextPlan {
 }
 
 impl KeptPlan {
-    /// A plan of a graph whose vertices stand apart.
-    pub(crate) fn apart(made: Planned) -> KeptPlan
-        requires { IsKeptApart made }
+    /// A plan of a graph whose vertices stand apart, and whether each of these is needed.
+    pub(crate) fn apart(made: Planned, needed: Vec<bool>) -> KeptPlan
+        requires kept { IsKeptApart made }
+        requires needed { needed.items ≡ flags_in made.graph }
         ensures { result ≡ made }
     {
         KeptPlan {
             made,
-            stands_apart: true,
+            needed: Some(needed),
         }
     }
 
@@ -53,10 +53,7 @@ impl KeptPlan {
         requires { ¬ AreApart made.graph }
         ensures { result ≡ made }
     {
-        KeptPlan {
-            made,
-            stands_apart: false,
-        }
+        KeptPlan { made, needed: None }
     }
 
     /// The graph, its plan, the charges and the cost.
@@ -77,18 +74,19 @@ impl KeptPlan {
     pub fn is_apart(&self) -> bool
         ensures { IsTrue result ↔ AreApart self.now.graph }
     {
-        self.stands_apart
+        self.needed.is_some()
     }
 
-    /// The plan, as one that can be brought up to date where the vertices of its graph stand apart.
-    pub(crate) fn into_apart(self) -> Result<Planned, Planned>
-        ensures ok { IfOk result (λ made. IsKeptApart made × (made.graph ≡ self.graph)) }
+    /// The plan, as one that can be brought up to date where the vertices of its graph stand apart, and whether each is needed.
+    pub(crate) fn into_apart(self) -> Result<(Planned, Vec<bool>), Planned>
+        ensures ok { IfOk result (λ kept. IsKeptApart kept.0 × (kept.0.graph ≡ self.graph)
+            × (kept.1.items ≡ flags_in kept.0.graph)) }
         ensures err { IfErr result (λ made. ¬ AreApart self.graph) }
     {
-        if self.stands_apart {
-            Ok(self.made)
-        } else {
-            Err(self.made)
+        let KeptPlan { made, needed } = self;
+        match needed {
+            Some(needed) => Ok((made, needed)),
+            None => Err(made),
         }
     }
 }

@@ -10,6 +10,7 @@
 mod again;
 mod costs;
 mod few;
+mod flags;
 mod kept;
 mod planned;
 

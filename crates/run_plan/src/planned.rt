@@ -5,8 +5,10 @@ ghost use Rattle.job_graph.specs.Unfolding.{Blames};
 ghost use Rattle.plan_checker.specs.Certificate.{IsCertificate};
 ghost use Rattle.plan_checker.specs.Least.{IsLeast};
 ghost use Rattle.plan_keeper.specs.Apart.{AreApart};
+ghost use Rattle.plan_keeper.specs.Kept.{IsKeptApart};
 ghost use Rattle.run_plan.specs.Planned.{IsPlanOf};
 
+use crate::flags::flags_of;
 use crate::kept::KeptPlan;
 use flow_planner::{OutOfMemory, plan, plan_again};
 use job_graph::{Costs, UnfoldError, Unfolding};
@@ -43,9 +45,18 @@ fn planned_graph(
 {
     kept_is_planned();
     match keep_apart(alloc, graph)? {
-        Ok(made) => Ok(KeptPlan::apart(made)),
+        Ok(made) => planned_apart(alloc, made),
         Err(graph) => planned_whole(alloc, graph, last),
     }
+}
+
+/// Keeps the plan of vertices that stand apart.
+fn planned_apart(alloc: Global, made: Planned) -> Result<KeptPlan, AllocError>
+    requires { IsKeptApart made }
+    ensures { IfOk result (λ kept. kept ≡ made) }
+{
+    let needed = flags_of(alloc, made.graph.vertices())?;
+    Ok(KeptPlan::apart(made, needed))
 }
 
 /// Plans a graph whose vertices don't stand apart.

@@ -3,7 +3,7 @@ use Rattle.std.specs.List.{AllByRecursion}
 use Rattle.std.specs.Option.{IfSome}
 use Rattle.std.proofs.Common.{◌≡◌, ℕ, Bool, true, false, cond, List, [], ◌∷◌, ◌++◌, Option, Some, None, fold, subst}
 use Rattle.job_graph.specs.Jobs.{Job}
-use Rattle.job_graph.specs.Made.{fields_moved}
+use Rattle.cwl_value.specs.Placed.{fields_moved}
 use Rattle.job_graph.specs.Words.{Name, Fields, JobPlace, is_same_place}
 use Rattle.job_rows.specs.declared.row.Row.{Row}
 use Rattle.collected_outputs.specs.Contents.{Heads}

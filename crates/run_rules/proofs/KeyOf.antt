@@ -8,7 +8,7 @@ use Rattle.job_graph.specs.Words.{Fields, JobPlace, Name, is_same_place}
 use Rattle.job_key.specs.Key.{Key, key}
 use Rattle.job_reuse.specs.Rows.{made_row}
 use Rattle.job_rows.specs.declared.row.Row.{Row}
-use Rattle.input_files.specs.declared.contents.TheConstants.{MOST_CONTENTS}
+use Rattle.cwl_value.specs.declared.value.TheConstants.{MOST_CONTENTS}
 use Rattle.collected_outputs.specs.HeadsWanted.{limit_of}
 use Rattle.plan_checker.specs.declared.plan.Mark.{Mark}
 use Rattle.proc_host.specs.declared.call.HostRequest.{HostRequest}

@@ -1,8 +1,7 @@
 -- What the ends of a lone tool say of computing it.
-use Rattle.std.proofs.Common.{◌≡◌, [], Some, None, Ok, Err, option_map, refl, ap}
+use Rattle.std.proofs.Common.{◌≡◌, [], Some, None, Ok, option_map, refl, ap}
 use Rattle.cwl_value.specs.Erased.{fields_erased}
 use Rattle.cwl_process.specs.declared.tool.Tool.{Tool}
-use Rattle.job_graph.specs.declared.cause.Cause.{Cause}
 use Rattle.job_graph.specs.Eval.{World, eval_by}
 use Rattle.job_graph.specs.Jobs.{tool_walk, all_named, outs_of, output_names}
 use Rattle.job_graph.specs.Made.{fields_made}
@@ -17,6 +16,3 @@ module _ (tool : Tool) (inputs : Fields) (world : World) where
       all_named (outs_of (output_names tool) (Some (fields_made [] named))) ≡ Some outputs →
       eval_by key world (tool_walk tool [] (Ok inputs)) ≡ Some (fields_erased outputs)
   gives named outputs some result = rw some (ap (option_map fields_erased) result)
-
-pub misfit_fails : (tool : Tool) (cause : Cause) (world : World) → eval_by key world (tool_walk tool [] (Err cause)) ≡ None
-misfit_fails tool cause world = refl

@@ -4,7 +4,7 @@ use Rattle.std.specs.List.{AllByRecursion}
 use Rattle.std.specs.Map.{values_of}
 use Rattle.std.specs.Option.{IfSome, option_map_or}
 use Rattle.std.proofs.Common.{◌≡◌, ◌∙◌, ℕ, Bool, true, false, List, [], ◌∷◌, ◌++◌, map, Option, Some, None, option_map, Ok, refl, sym, ap, rules}
-use Rattle.std.proofs.lemmas.List.Elements.{All-from_recursion, recursion_from_All}
+use Rattle.std.proofs.lemmas.List.Elements.{recursion_from_All}
 use Rattle.plain_data.specs.ByName.{map_values}
 use Rattle.plan_checker.specs.declared.plan.Mark.{Mark}
 use Rattle.cwl_process.specs.declared.tool.Tool.{Tool}
@@ -29,7 +29,7 @@ use Rattle.collected_outputs.proofs.Throughout.{dir_level, dir_pass, dir_value, 
 use Rattle.job_graph.specs.Jobs.{Job}
 use Rattle.cwl_value.specs.Fileless.{some_true}
 use Rattle.job_graph.specs.Made.{any_made, dir_holds, file_holds, holds_made, is_of}
-use Rattle.job_graph.specs.Makers.{AreNamed, AreUnmade}
+use Rattle.job_graph.specs.Makers.{AreUnmade}
 use Rattle.job_graph.specs.Unfold.{Resolved}
 use Rattle.job_graph.specs.Words.{Name, Fields, JobPlace}
 use Rattle.job_graph.proofs.laws_of_walks.Held.{a_dir, a_file, both_false, holds-DirVal, holds-Fields, holds-FileVal, holds-List}
@@ -265,8 +265,3 @@ named_resolved (archive_differs place its_key number ∷ es) all = named_resolve
 named_resolved (drop_failed place refusal ∷ es) all = named_resolved es all.1
 named_resolved (touch_failed place refusal ∷ es) all = named_resolved es all.1
 named_resolved (discard_failed place ∷ es) all = named_resolved es all.1
-
--- the outputs that a run has learned are named
-pub learned_are_named : (s : Scene) {Plans : Progress → List Mark → Type 0} {t : List Pair} {f : Progress} {plans : PlansSoFar} → Goes s Plans t f plans → AreNamed (resolved f.events)
-learned_are_named s {f = f} goes =
-    All-from_recursion (λ (r : Resolved). AreUnmade r.outputs) (resolved f.events) (named_resolved f.events (goes_named s goes))

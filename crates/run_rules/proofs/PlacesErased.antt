@@ -12,7 +12,7 @@ use Rattle.cwl_value.specs.declared.value.Value.TheOpen.{Value-F, FileVal-F, Dir
 use Rattle.cwl_value.specs.declared.value.FileVal.{FileVal, roll-FileVal, fold-FileVal}
 use Rattle.cwl_value.specs.declared.value.DirVal.{DirVal, roll-DirVal, fold-DirVal}
 use Rattle.cwl_value.proofs.Induction.{Cases, induction}
-use Rattle.job_graph.specs.Made.{value_moved, file_moved, dir_moved, fields_moved}
+use Rattle.cwl_value.specs.Placed.{value_moved, file_moved, dir_moved, fields_moved}
 use Rattle.job_graph.specs.Words.{Name, Fields, last_by_name}
 use Rattle.run_rules.specs.Delivered.{located, location_place, object_of, source_place, sources}
 use Rattle.run_rules.specs.Events.{Event, folder_at}

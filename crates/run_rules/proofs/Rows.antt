@@ -57,7 +57,8 @@ use Rattle.run_rules.specs.declared.setting.Setting.{Setting}
 use Rattle.type_check.specs.Fits.{fits_member, is_plain}
 use Rattle.job_graph.specs.Eval.{World, eval, eval_by}
 use Rattle.job_graph.specs.Jobs.{Job}
-use Rattle.job_graph.specs.Made.{value_moved, file_moved, dir_moved, made_place}
+use Rattle.cwl_value.specs.Placed.{value_moved, file_moved, dir_moved}
+use Rattle.job_graph.specs.Made.{made_place}
 use Rattle.job_graph.specs.Words.{Name, Fields, JobPlace}
 use Rattle.run_rules.specs.Delivered.{any_file, has_file_at, location_place, source_place, sources}
 use Rattle.run_rules.specs.Events.{Event, Progress, job_staged, job_started, child_exited, job_succeeded, job_failed, job_failed_for_now, result_delivered, host_failed, collect_failed, no_row, nothing_due, start_due, put_due, Started, at_first, folder_at, unfolding_at}

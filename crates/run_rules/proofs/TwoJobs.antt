@@ -14,7 +14,7 @@ use Rattle.proc_host.specs.declared.call.HostFault.{HostFault}
 use Rattle.cwl_value.specs.declared.value.Value.{the_lemmas}
 use Rattle.cwl_value.specs.declared.value.Value as value
 use Rattle.collected_outputs.specs.Collected.{IsCollected, bound, readable}
-use Rattle.collected_outputs.specs.Readable.{has_class, nesting}
+use Rattle.collected_outputs.specs.Readable.{has_class}
 use Rattle.collected_outputs.specs.HeadsWanted.{of_outputs, none as none_asked}
 use Rattle.collected_outputs.specs.Outputs.{none as no_outputs}
 use Rattle.staging.specs.Placing.{none as none_placed}
@@ -131,8 +131,7 @@ started_as n = record { inputs = []; launch = launch n }
 empty_is_readable : readable [] ≡ Ok []
 empty_is_readable =
     let no_class : has_class (value.Fields []) ≡ false = search (rules, the_lemmas) in
-    let one_level : nesting (value.Fields []) ≡ 1 = search (rules, the_lemmas) in
-    rw (no_class, one_level) refl
+    rw no_class refl
 
 pub collects_nothing : (n : ℕ) → IsCollected (left_of (started_as n) [] []) [] (Ok [])
 collects_nothing n = record { gathered = Ok []; are_gathered = bound [] refl no_outputs; is = sym empty_is_readable }

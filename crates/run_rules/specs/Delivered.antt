@@ -6,7 +6,7 @@ use Rattle.cwl_value.specs.declared.value.Value.{Value, fold-Value, roll-Value}
 use Rattle.cwl_value.specs.declared.value.Value.TheOpen.{Value-F}
 use Rattle.file_values.specs.Location.{location_of}
 use Rattle.cwl_value.specs.Fileless.{some_true}
-use Rattle.job_graph.specs.Made.{fields_moved}
+use Rattle.cwl_value.specs.Placed.{fields_moved}
 use Rattle.job_graph.specs.Words.{Name, Fields, JobPlace, last_by_name}
 
 -- Whether there is something to deliver

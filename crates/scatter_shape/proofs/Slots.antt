@@ -1,9 +1,9 @@
 -- Slots that all have a value.
-use Rattle.std.proofs.Common.{◌≡◌, suc, ◌<◌, List, [], ◌∷◌, ◌++◌, length, get_or, Option, Some, None, refl, sym, ap, ◌∙◌, arith, subst, append_assoc}
+use Rattle.std.proofs.Common.{◌≡◌, suc, List, [], ◌∷◌, ◌++◌, length, Option, Some, None, refl, sym, ap, ◌∙◌, arith, append_assoc}
 use Rattle.std.specs.Prelude.{All, IsSome}
 use Rattle.std.specs.List.{AllByRecursion}
 use Rattle.std.proofs.lemmas.Bool.{false≢true}
-use Rattle.std.proofs.lemmas.List.{append-nil, get_or_at, length-append}
+use Rattle.std.proofs.lemmas.List.{append-nil}
 use Rattle.std.proofs.lemmas.List.Elements.{filter_map-append, recursion_from_All}
 use Rattle.cwl_value.specs.declared.value.Value.{Value}
 use Rattle.scatter_shape.specs.Gathered.{values_in}
@@ -15,14 +15,6 @@ pub values_more : (done : List (Option Value)) (slot : Option Value) (v : Value)
     → more ≡ values ++ v ∷ [] → more ≡ values_in (done ++ slot ∷ [])
 values_more done slot v values more is so_far pushed =
     pushed ∙ ap (λ xs. xs ++ v ∷ []) so_far ∙ sym (filter_map-append (λ x. x) done (Some v ∷ [])) ∙ ap (λ x. values_in (done ++ x ∷ [])) (sym is)
-
-pub no_gap : (whole done left rest : List (Option Value)) → All IsSome whole → whole ≡ done ++ left → left ≡ None ∷ rest → ⊥
-no_gap whole done left rest full split is =
-    let same : whole ≡ done ++ None ∷ rest = split ∙ ap (λ xs. done ++ xs) is in
-    let size : length whole ≡ length (done ++ None ∷ rest) = ap length same in
-    let there : length done < length whole = omega (arith, size, length-append done (None ∷ rest)) in
-    let gap : get_or whole (length done) None ≡ None = ap (λ xs. get_or xs (length done) None) same ∙ get_or_at done None rest None (length done) refl in
-    false≢true (subst (λ (slot : Option Value). IsSome slot) gap (full (length done) None there))
 
 count_by_recursion : (slots : List (Option Value)) → AllByRecursion IsSome slots → length (values_in slots) ≡ length slots
 count_by_recursion [] h = refl

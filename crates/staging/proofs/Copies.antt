@@ -1,6 +1,6 @@
 -- Which copies a plan has, and that those of different sources go to different targets.
-use Rattle.std.proofs.Common.{◌≡◌, ℕ, ◌+◌, ◌<◌, ◌^◌, Bool, true, false, true≢false, not, ◌==◌, ◌||◌, List, [], ◌∷◌, ◌++◌, map, length, length-append, append-nil, get_or, take, Option, Some, None, inl, inr, refl, sym, ap, subst, ◌∙◌, arith, eqb-true}
-use Rattle.std.specs.Prelude.{Contains, decimal, MatchOption, is_some}
+use Rattle.std.proofs.Common.{◌≡◌, ℕ, ◌+◌, ◌<◌, ◌^◌, Bool, true, false, true≢false, not, ◌==◌, ◌||◌, List, [], ◌∷◌, ◌++◌, map, length, length-append, append-nil, get_or, take, inl, inr, refl, sym, ap, subst, ◌∙◌, arith, eqb-true}
+use Rattle.std.specs.Prelude.{Contains, decimal}
 use Rattle.std.proofs.lemmas.Bool.Decides.{leb_tells}
 use Rattle.std.proofs.lemmas.Fmt.{decimal_injective}
 use Rattle.std.proofs.lemmas.List.{take_more}
@@ -9,7 +9,7 @@ use Rattle.staging.specs.Groups.{path_in, groups_of_fields}
 use Rattle.staging.specs.Placing.{IsFolder, ArePlaced}
 use Rattle.staging.specs.Plan.{AreMoves, IsPlan, folder_path, move_to}
 use Rattle.staging.specs.Laws.{AreNamed, has_slash}
-use Rattle.staging.specs.inner.Folders.{NoneIs, IsAbove}
+use Rattle.staging.specs.inner.Folders.{IsAbove}
 use Rattle.staging.specs.declared.group.Member.{Member}
 use Rattle.staging.specs.declared.group.Placed.{Placed}
 use Rattle.staging.specs.declared.plan.Move.{Move}
@@ -26,18 +26,6 @@ one_more placed i x within is = take_more placed i x within ∙ ap (λ y. take i
 
 pub not_some : (some none : Bool) → some ≡ not none → none ≡ true → some ≡ false
 not_some some none h is = h ∙ ap not is
-
-pub is_some_here : (some none : Bool) → some ≡ not none → none ≡ false → some ≡ true
-is_some_here some none h is = h ∙ ap not is
-
-pub none_shared : (placed : List Placed) (group : List Member) (found : Option ℕ) → is_some found ≡ false → MatchOption found (NoneIs placed group) (λ k. Contains placed (record { members = group; folder = k })) → NoneIs placed group
-none_shared placed group None no_one h = h
-none_shared placed group (Some k) no_one h = absurd (true≢false no_one)
-
-pub again_shared : (path : ℕ → List ℕ) (placed : List Placed) (moves : List Move) (p : Placed) (group : List Member) (found : Option ℕ) → group ≡ p.members → is_some found ≡ true
-    → MatchOption found (NoneIs placed group) (λ k. Contains placed (record { members = group; folder = k })) → AreMoves path placed moves → AreMoves path (placed ++ p ∷ []) moves
-again_shared path placed moves p group None same some h before = absurd (true≢false (sym some))
-again_shared path placed moves p group (Some k) same some h before = AreMoves.again placed moves p (record { members = group; folder = k }) before h same
 
 -- where each copy comes from
 

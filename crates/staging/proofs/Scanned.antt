@@ -1,7 +1,7 @@
 -- What the reader's steps find, put together.
-use Rattle.std.proofs.Common.{◌≡◌, ℕ, suc, ◌+◌, Bool, true, false, true≢false, not, ◌&&◌, ◌==◌, List, [], ◌∷◌, ◌++◌, take, Some, None, Ok, Err, append_assoc, append-nil, add-one, refl, sym, ap, subst, ◌∙◌, inl, inr, eqb-true, arith}
+use Rattle.std.proofs.Common.{◌≡◌, ℕ, suc, ◌+◌, Bool, true, false, true≢false, not, ◌&&◌, ◌==◌, List, [], ◌∷◌, ◌++◌, take, Some, None, Ok, Err, append_assoc, append-nil, refl, sym, ap, subst, ◌∙◌, inl, inr, eqb-true, arith}
 use Rattle.std.specs.List.{list_all, list_any}
-use Rattle.staging.specs.Reading.{body, Reads, Ranges, IsBracket, is_inside, is_plain, is_empty, has_close, closes_later, is_closed, begins_range, fault_of, has_falling, IsReading}
+use Rattle.staging.specs.Reading.{body, Reads, Ranges, IsBracket, is_inside, is_plain, is_empty, has_close, is_closed, begins_range, fault_of, has_falling, IsReading}
 use Rattle.staging.specs.inner.Scans.{begins_with, ItemThen, RangeThen, ClosesAt, MembersThen, BracketThen, single_item}
 use Rattle.staging.specs.declared.item.CharRange.{CharRange}
 use Rattle.staging.specs.declared.item.Bracket.{Bracket}
@@ -24,10 +24,6 @@ items_end text rest items so_far reads = subst (Reads text) (append-nil items) (
 
 abbrev pub RangesSoFar : List ℕ → List CharRange → List ℕ → Type 0
 RangesSoFar text ranges rest = (more : List CharRange) → Ranges rest more → Ranges text (ranges ++ more)
-
-pub ranges_pushed : (text rest after : List ℕ) (ranges more : List CharRange) (r : CharRange) → RangesSoFar text ranges rest → RangeThen rest r after → more ≡ ranges ++ r ∷ [] → RangesSoFar text more after
-ranges_pushed text rest after ranges more r so_far next is others reads =
-    subst (Ranges text) (sym (append_assoc ranges (r ∷ []) others) ∙ ap (λ x. x ++ others) (sym is)) (so_far (r ∷ others) (next others reads))
 
 pub ranges_end : (text rest : List ℕ) (ranges : List CharRange) → RangesSoFar text ranges rest → rest ≡ [] → Ranges text ranges
 ranges_end text rest ranges so_far none = subst (Ranges text) (append-nil ranges) (so_far [] (subst (λ (x : List ℕ). Ranges x []) (sym none) Ranges.nothing))
@@ -59,9 +55,6 @@ pub record Closing (text : List ℕ) (count : ℕ) (rest : List ℕ) : Type 0 wh
   pub same : has_close text ≡ has_close rest
   pub closes : (n : ℕ) (after : List ℕ) → ClosesAt rest n after → ClosesAt text (count + n) after
 
-pub closing-begin : (text : List ℕ) → Closing text 0 text
-closing-begin text = record { same = refl; closes = λ n after h. let zero_first : 0 + n ≡ n = omega arith in subst (λ (k : ℕ). ClosesAt text k after) (sym zero_first) h }
-
 close_further : (c : ℕ) (text : List ℕ) → (c == 93) ≡ false → (c == 47) ≡ false → has_close (c ∷ text) ≡ has_close text
 close_further c text p q = rw (p, q) refl
 
@@ -84,36 +77,7 @@ closing-found text count rest after c h parts is =
     let on : count + 0 ≡ count = omega arith in
     subst (λ (k : ℕ). ClosesAt text k after) on (h.closes 0 after here)
 
-pub closing-slash : (text : List ℕ) (count : ℕ) (rest after : List ℕ) (c : ℕ) → Closing text count rest → rest ≡ c ∷ after → c ≡ 47 → has_close text ≡ false
-closing-slash text count rest after c h parts is = h.same ∙ ap has_close (parts ∙ ap (λ x. x ∷ after) is)
-
-pub closing-end : (text : List ℕ) (count : ℕ) (rest : List ℕ) → Closing text count rest → rest ≡ [] → has_close text ≡ false
-closing-end text count rest h none = h.same ∙ ap has_close none
-
 -- members and brackets
-
-pub unclosed_members : (text others : List ℕ) (first : ℕ) → text ≡ first ∷ others → has_close others ≡ false → closes_later text ≡ false
-unclosed_members text others first parts never = ap closes_later parts ∙ last (not (first == 47))
-  where
-    last : (b : Bool) → (b && has_close others) ≡ false
-    last true = never
-    last false = refl
-
-pub slash_members : (text others : List ℕ) (first : ℕ) → text ≡ first ∷ others → first ≡ 47 → closes_later text ≡ false
-slash_members text others first parts is = ap closes_later (parts ∙ ap (λ x. x ∷ others) is)
-
-pub members_then : (text others rest : List ℕ) (first count : ℕ) (ranges : List CharRange) → text ≡ first ∷ others → (first == 47) ≡ false → ClosesAt others count rest
-    → Ranges (take (count + 1) text) ranges → MembersThen text ranges rest
-members_then text others rest first count ranges parts apart closes are =
-    let taken : take (count + 1) text ≡ first ∷ take count others = ap (λ x. take (count + 1) x) parts ∙ rw add-one refl in
-    record {
-      first = first;
-      others = take count others;
-      parts = parts ∙ ap (λ x. first ∷ x) closes.parts;
-      no_slash = apart;
-      inside = closes.inside;
-      are = subst (λ (x : List ℕ). Ranges x ranges) taken are;
-    }
 
 pub negated_then : (text listed rest : List ℕ) (ranges : List CharRange) → text ≡ 33 ∷ listed → MembersThen listed ranges rest → BracketThen text (record { negated = true; ranges = ranges }) rest
 negated_then text listed rest ranges parts h =
@@ -122,13 +86,6 @@ negated_then text listed rest ranges parts h =
 pub listed_then : (text rest : List ℕ) (ranges : List CharRange) → begins_with 33 text ≡ false → MembersThen text ranges rest → BracketThen text (record { negated = false; ranges = ranges }) rest
 listed_then text rest ranges plain h =
     record { inside = h.first ∷ h.others; parts = h.parts; is = IsBracket.one_of (sym (ap (begins_with 33) h.parts) ∙ plain) h.no_slash h.inside h.are }
-
-pub unclosed_negated : (text listed : List ℕ) → text ≡ 33 ∷ listed → closes_later listed ≡ false → is_closed text ≡ false
-unclosed_negated text listed parts never = ap is_closed parts ∙ never
-
-pub unclosed_listed : (text : List ℕ) → begins_with 33 text ≡ false → closes_later text ≡ false → is_closed text ≡ false
-unclosed_listed [] plain never = refl
-unclosed_listed (c ∷ text) plain never = rw plain never
 
 -- items
 
@@ -151,11 +108,6 @@ bracket_item text rest bracket h pattern reads =
 
 pub unclosed_item : (text : List ℕ) → is_closed text ≡ false → ItemThen (91 ∷ text) (Literal 91) text
 unclosed_item text never pattern reads = Reads.unclosed never reads
-
-pub item_there : (text rest after : List ℕ) (c : ℕ) (i : PatternItem) → text ≡ c ∷ rest → c ≡ 91 → ItemThen (91 ∷ rest) i after → ItemThen text i after
-item_there text rest after c i parts is h pattern reads =
-    let whole : text ≡ 91 ∷ rest = cc in
-    subst (λ (x : List ℕ). Reads x (i ∷ pattern)) (sym whole) (h pattern reads)
 
 single_reads : (c : ℕ) (rest : List ℕ) (pattern : List PatternItem) → (c == 91) ≡ false → (c == 47 && is_empty rest) ≡ false → Reads rest pattern → Reads (c ∷ rest) (single_item c ∷ pattern)
 single_reads c rest pattern plain on reads =
@@ -190,34 +142,6 @@ pub accepted : (text inner : List ℕ) (pattern : List PatternItem) → inner �
 accepted text inner pattern is clean reads rises = IsReading.accepted (ap fault_of (sym is) ∙ clean) (subst (λ (x : List ℕ). Reads x pattern) is reads) rises
 
 -- without a leading `./`
-
-body_cut : (text dotted rest : List ℕ) → text ≡ 46 ∷ dotted → dotted ≡ 47 ∷ rest → is_empty rest ≡ false → rest ≡ body text
-body_cut text dotted [] one two some = absurd (true≢false some)
-body_cut text dotted (c ∷ rest) one two some =
-    let whole : text ≡ 46 ∷ 47 ∷ c ∷ rest = cc in
-    sym (ap body whole)
-
-pub body_rest : (text dotted rest : List ℕ) → text ≡ 46 ∷ dotted → dotted ≡ 47 ∷ rest → is_empty rest ≡ false → rest ≡ body text
-body_rest = body_cut
-
-pub body_short : (text dotted rest : List ℕ) → text ≡ 46 ∷ dotted → dotted ≡ 47 ∷ rest → is_empty rest ≡ true → text ≡ body text
-body_short text dotted rest one two none =
-    let nil : rest ≡ [] = empty-nil rest none in
-    let whole : text ≡ 46 ∷ 47 ∷ [] = cc in
-    whole ∙ ap body (sym whole)
-
-pub body_no_dot : (text : List ℕ) → begins_with 46 text ≡ false → text ≡ body text
-body_no_dot [] h = refl
-body_no_dot (a ∷ []) h = refl
-body_no_dot (a ∷ b ∷ []) h = refl
-body_no_dot (a ∷ b ∷ c ∷ text) h = rw h refl
-
-pub body_no_slash : (text dotted : List ℕ) → text ≡ 46 ∷ dotted → begins_with 47 dotted ≡ false → text ≡ body text
-body_no_slash text [] parts h = parts ∙ ap body (sym parts)
-body_no_slash text (b ∷ []) parts h = parts ∙ ap body (sym parts)
-body_no_slash text (b ∷ c ∷ dotted) parts h =
-    let same : 46 ∷ b ∷ c ∷ dotted ≡ body (46 ∷ b ∷ c ∷ dotted) = rw h refl in
-    parts ∙ same ∙ ap body (sym parts)
 
 pub items_begin : (text : List ℕ) (items : List PatternItem) → items ≡ [] → ItemsSoFar text items text
 items_begin text items is pattern reads = subst (λ (x : List PatternItem). Reads text (x ++ pattern)) (sym is) reads

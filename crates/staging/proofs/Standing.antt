@@ -211,26 +211,5 @@ pub bounds_later : (items : List PatternItem) (name : List ℕ) (star : Option P
 bounds_later items name None here next h t = absurd t
 bounds_later items name (Some star) here next h t = (omega (arith, t.same_at, h.0, h.1), omega arith, omega arith)
 
-pub fewer_taken : (items : List PatternItem) (name : List ℕ) (star : Option Place) (here next : Place) → IsTaken items here next → steps_left items name star next < steps_left items name star here
-fewer_taken items name None here next t = omega (arith, t.on, t.within)
-fewer_taken items name (Some star) here next t = omega (arith, t.on, t.within)
-
-products : (r s a b : ℕ) → r ≤ s → a ≤ b → r * a ≤ s * b
-products r s a b h k = grind arith
-
-pub fewer_starred : (items : List PatternItem) (name : List ℕ) (star : Option Place) (here next : Place) → InBounds items name star here → IsStarred items here next
-    → steps_left items name (Some next) next < steps_left items name star here
-fewer_starred items name None here next h t =
-    omega (arith, t.on, t.within, products (length next.rest.now + 1) (length name + 1) (length items + 1 - next.at) (length items + 1) (omega (arith, ap length t.same_rest, h.1)) (omega arith))
-fewer_starred items name (Some star) here next h t =
-    omega (arith, t.on, t.within, h.1, products (length next.rest.now + 1) (length star.rest.now + 1) (length items + 1 - next.at) (length items + 1 - star.at) (omega (arith, ap length t.same_rest, h.2)) (omega (arith, t.on, h.1)))
-
 one_less : (r s k : ℕ) → r < s → (r + 1) * k + k ≤ (s + 1) * k
 one_less r s k h = grind arith
-
-pub fewer_later : (items : List PatternItem) (name : List ℕ) (star : Option Place) (here next : Place) → InBounds items name star here → TakesOneMore star (Some next)
-    → steps_left items name (Some next) next < steps_left items name star here
-fewer_later items name None here next h t = absurd t
-fewer_later items name (Some star) here next h t =
-    let same : (length next.rest.now + 1) * (length items + 1 - next.at) ≡ (length next.rest.now + 1) * (length items + 1 - star.at) = ap (λ n. (length next.rest.now + 1) * (length items + 1 - n)) t.same_at in
-    omega (arith, same, t.same_at, h.0, h.1, one_less (length next.rest.now) (length star.rest.now) (length items + 1 - star.at) t.shorter)

@@ -11,7 +11,7 @@ use crate::groups::{dir_group, file_group, name_of};
 use crate::index::FolderIndex;
 use crate::targets::{Folders, folder_path, path_in};
 use cwl_value::{DirVal, FileVal, Place, Value, holds_files};
-use plain_data::{Items, Keyed, Text};
+use plain_data::{Items, Keyed, Text, copied_if_any};
 use std::alloc::{AllocError, Global};
 
 /// Where the groups of a value stand.
@@ -86,7 +86,7 @@ fn moved_dir(alloc: Global, dir: &DirVal, way: Way<'_>) -> Result<DirVal, AllocE
     ensures { IfOk result (λ found. found ≡ (copied_dir dir.now).moved (folder_by way.entry)) }
 {
     let path = path_of_dir(alloc, dir, way)?;
-    let basename = copy_if_any(alloc, &dir.basename)?;
+    let basename = copied_if_any(alloc, &dir.basename)?;
     match &dir.listing {
         None => Ok(DirVal {
             place: Place::Path(path),
@@ -163,9 +163,9 @@ fn file_in(
     ensures { IfOk result (λ found. found ≡ file_as folder.now secondary file.now) }
 {
     let path = path_in(alloc, folder, name_of(&file.basename))?;
-    let basename = copy_if_any(alloc, &file.basename)?;
-    let checksum = copy_if_any(alloc, &file.checksum)?;
-    let contents = copy_if_any(alloc, &file.contents)?;
+    let basename = copied_if_any(alloc, &file.basename)?;
+    let checksum = copied_if_any(alloc, &file.checksum)?;
+    let contents = copied_if_any(alloc, &file.contents)?;
     Ok(FileVal {
         place: Place::Path(path),
         basename,
@@ -174,13 +174,4 @@ fn file_in(
         contents,
         secondary,
     })
-}
-
-fn copy_if_any(alloc: Global, text: &Option<Text>) -> Result<Option<Text>, AllocError>
-    ensures { IfOk result (λ copy. copy ≡ text.now) }
-{
-    match text {
-        None => Ok(None),
-        Some(text) => Ok(Some(text.copied(alloc)?)),
-    }
 }

@@ -1,4 +1,4 @@
-//! Tests of the planner: generated graphs, beside a plain search over all plans and beside the planner by paths.
+//! Tests of the planner: generated graphs, beside a plain search over all plans and beside plans that are made otherwise.
 #![tactic(auto)]
 
 #[cfg(test)]

@@ -11,7 +11,6 @@ use plan_keeper::{plan_apart, plan_cost};
 use std::alloc::Global;
 use std::mem;
 use std::test::Fail;
-use test_paths::plan_by_paths;
 
 /// Whether the plan of a small graph is what all its cheapest plans do.
 fn is_least_of_all(alloc: Global, number: u64) -> Result<bool, Fail> {
@@ -33,16 +32,6 @@ fn is_plan(alloc: Global, graph: &Graph, other: &(Plan, Charges)) -> Result<bool
         && check(graph, &made.0, &made.1) == check(graph, &other.0, &other.1);
     mem::drop(made);
     Ok(is_same)
-}
-
-/// Whether the plan of a larger graph is the one that the planner by paths finds.
-fn is_by_paths(alloc: Global, number: u64) -> Result<bool, Fail> {
-    let graph = larger(alloc, number)?;
-    let other = plan_by_paths(alloc, &graph)?;
-    let is_same = is_plan(alloc, &graph, &other);
-    mem::drop(other);
-    mem::drop(graph);
-    is_same
 }
 
 /// The charges of a larger graph's plan.
@@ -90,15 +79,6 @@ fn plans_of_small_graphs_are_the_least(rt: HostRuntime) -> Result<(), Fail> {
     for number in 0..400 {
         let is_least = is_least_of_all(rt.alloc(), number)?;
         assert!(rt; is_least, "graph {number}");
-    }
-    Ok(())
-}
-
-#[test]
-fn level_graphs_and_paths_give_one_plan(rt: HostRuntime) -> Result<(), Fail> {
-    for number in 0..300 {
-        let is_one = is_by_paths(rt.alloc(), number)?;
-        assert!(rt; is_one, "graph {number}");
     }
     Ok(())
 }

@@ -12,7 +12,6 @@ use plan_checker::{
 use plan_keeper::{add_vertex, keep_apart, plan_apart, plan_cost};
 use plan_words::{Known, plan_lines, plan_picture, plan_reasons, waiting_line};
 use std::alloc::{AllocError, Global};
-use test_paths::{no_charges, plan_from};
 
 /// The sample of `plan_checker`.
 pub fn read_and_checked(alloc: Global, bytes: &[u8]) -> Result<(), CertificateError> {
@@ -28,14 +27,6 @@ pub fn cheapest_plan(alloc: Global, graph: &Graph, changed: &Graph) -> Result<()
     let (first, charges) = plan(alloc, graph)?; // graph: plan_checker's Graph
     let cost = check(graph, &first, &charges); // Ok(cost): certified
     let (second, more) = plan_again(alloc, changed, &charges)?; // a graph that has changed a little
-    Ok(())
-}
-
-/// The sample of `test_paths`.
-pub fn plan_by_paths(alloc: Global, graph: &Graph) -> Result<(), AllocError> {
-    let start = no_charges(alloc, graph)?; // graph: plan_checker's Graph; any fair charges do
-    let (least, charges) = plan_from(alloc, graph, start)?;
-    let cost = check(graph, &least, &charges); // Ok(cost): certified
     Ok(())
 }
 

@@ -74,9 +74,6 @@ fields_deepest es order = object_deepest (map_values json_of es) (by_name_mapped
 file_deep : (f : FileVal) → depth (file_data f) ≡ suc (depth_if_any (unless_empty (items_json f.secondary)))
 file_deep f = ap (λ x. depth (file_data x)) (sym (roll-out-FileVal f)) ∙ ap depth (file_data-roll (out-FileVal f)) ∙ file_depth _
 
-pub no_files_deep : (f : FileVal) → f.secondary ≡ [] → depth (file_data f) ≡ 1
-no_files_deep f none = file_deep f ∙ ap (λ vs. suc (depth_if_any (unless_empty (items_json vs)))) none
-
 some_files : (vs : List Value) → (vs ≡ [] → ⊥) → depth_if_any (unless_empty (items_json vs)) ≡ suc (deepest (items_json vs))
 some_files [] some = absurd (some refl)
 some_files (v ∷ vs) some = refl
@@ -87,9 +84,6 @@ some_files_deep f some = file_deep f ∙ ap suc (some_files f.secondary some)
 -- so is a Directory, with its listing
 dir_deep : (d : DirVal) → depth (dir_data d) ≡ suc (depth_if_any (listing_json (option_map items_json d.listing)))
 dir_deep d = ap (λ x. depth (dir_data x)) (sym (roll-out-DirVal d)) ∙ ap depth (dir_data-roll (out-DirVal d)) ∙ dir_depth _
-
-pub unlisted_deep : (d : DirVal) → d.listing ≡ None → depth (dir_data d) ≡ 1
-unlisted_deep d none = dir_deep d ∙ ap (λ o. suc (depth_if_any (listing_json (option_map items_json o)))) none
 
 pub listed_deep : (d : DirVal) (vs : List Value) → d.listing ≡ Some vs → depth (dir_data d) ≡ suc (suc (deepest (items_json vs)))
 listed_deep d vs some = dir_deep d ∙ ap (λ o. suc (depth_if_any (listing_json (option_map items_json o)))) some ∙ ap suc (listing_depth (items_json vs))

@@ -3,11 +3,8 @@ ghost use Rattle.std.specs.Prelude.{◌≡◌};
 ghost use Rattle.value_depth.specs.Limit as spec;
 
 use crate::depth::{fields_within, nests_within};
-use cwl_value::Value;
+use cwl_value::{MOST_NESTING, Value};
 use plain_data::Keyed;
-
-/// How deep arrays and objects may nest in JSON that is to be read back.
-pub const MOST_NESTING: usize = 100;
 
 /// Checks that the JSON of a value nests no deeper than the limit.
 pub fn is_within_limit(value: &Value) -> bool

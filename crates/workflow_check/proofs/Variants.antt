@@ -1,7 +1,6 @@
 -- The definitions at each variant of a process and of a member of a type.
 use Rattle.std.proofs.Common.{rules, ◌≡◌, ◌∙◌, ℕ, false, List, [], ◌∷◌, map, ap, sym}
 use Rattle.std.specs.Prelude.{None}
-use Rattle.plain_data.specs.ByName.{map_values}
 use Rattle.cwl_types.specs.Types.{array_of}
 use Rattle.cwl_types.specs.declared.types.ArrayType.{ArrayType, out-ArrayType}
 use Rattle.cwl_types.specs.declared.types.MemberType.{MemberType}
@@ -10,25 +9,10 @@ use Rattle.cwl_types.specs.declared.types.MemberType.TheOpen.{MemberType-F}
 use Rattle.cwl_types.specs.declared.types.MemberType.TheViews as member_views
 use Rattle.cwl_types.specs.declared.types.MemberType.TheFolds.{fold-roll-MemberType, fold_out-ArrayType, fold_out-MemberType}
 use Rattle.cwl_types.specs.declared.types.PlainType.{PlainType}
-use Rattle.cwl_process.specs.declared.tool.Tool.{Tool}
 use Rattle.type_check.specs.Overlaps.{Meets, array_meets as array_meets_step, has_lists, member_meets, members_overlap, overlaps}
 use Rattle.document_links.specs.declared.process.Process as process
 use Rattle.document_links.specs.declared.process.Process.TheViews as views
-use Rattle.document_links.specs.declared.process.Workflow.{Workflow, out-Workflow}
-use Rattle.workflow_check.specs.Scope.{gives, output_kind, takes, tool_asked, workflow_asked}
 use Rattle.workflow_check.specs.Types.{items_or_itself}
-
-pub gives_tool : (tool : Tool) → gives (process.Tool tool) ≡ map_values (λ o. output_kind o.kind) tool.outputs
-gives_tool tool = search (rules, views.the_lemmas)
-
-pub gives_workflow : (w : Workflow) → gives (process.Workflow w) ≡ map_values (λ o. o.kind) (out-Workflow w).outputs
-gives_workflow w = search (rules, views.the_lemmas)
-
-pub takes_tool : (tool : Tool) → takes (process.Tool tool) ≡ map_values tool_asked tool.inputs
-takes_tool tool = search (rules, views.the_lemmas)
-
-pub takes_workflow : (w : Workflow) → takes (process.Workflow w) ≡ map_values workflow_asked (out-Workflow w).inputs
-takes_workflow w = search (rules, views.the_lemmas)
 
 pub plain_meets_array : (k : PlainType) (items : List MemberType) → members_overlap (Plain k) (array_of items None) ≡ has_lists k
 plain_meets_array k items = search (rules, member_views.the_lemmas, fold-roll-MemberType Meets Meets member_meets array_meets_step, fold_out-MemberType Meets Meets member_meets array_meets_step)

@@ -1,35 +1,12 @@
 -- What a record answers to a command adds its line, and the command can have it.
 use Rattle.std.specs.Prelude.{IfOk, IfSome}
-use Rattle.std.proofs.Common.{◌≡◌, ℕ, List, Option, Result, Ok, Err, refl}
-use Rattle.job_rows.specs.Log.{entries_of, told_of}
-use Rattle.job_rows.specs.declared.log.Command.{Command}
+use Rattle.std.proofs.Common.{◌≡◌, ℕ, List, Option, Result, Ok, Err}
 use Rattle.job_rows.specs.declared.refusal.RecordError.{RecordError}
 use Rattle.job_rows.specs.declared.refusal.RecordError.TheVariants.{Refused, OutOfMemory}
 use Rattle.job_rows.specs.declared.row.Row.{Row}
 use Rattle.run_rules.specs.Answers.{CanTell, is_dropped, is_found, is_put, is_refused, is_touched}
 use Rattle.run_rules.specs.declared.request.RecordRequest.{RecordRequest}
-use Rattle.workflow_engine.specs.Gains.{done_by, found_by, kept_by, lines_by}
-
-pub find_logged : (key : List ℕ) (outcome : Result (Option Row) RecordError) → entries_of Command.Find key (told_of outcome) ≡ lines_by (RecordRequest.Find key) (found_by outcome)
-find_logged key (Ok row) = refl
-find_logged key (Err (Refused refusal)) = refl
-find_logged key (Err OutOfMemory) = refl
-
-pub put_logged : (row : Row) (outcome : Result (List (List ℕ)) RecordError) → entries_of Command.Put row.key (told_of outcome) ≡ lines_by (RecordRequest.Put row) (kept_by outcome)
-put_logged row (Ok gone) = refl
-put_logged row (Err (Refused refusal)) = refl
-put_logged row (Err OutOfMemory) = refl
-
-pub touch_logged : (key : List ℕ) (outcome : Result (Unit {0}) RecordError) → entries_of Command.Touch key (told_of outcome) ≡ lines_by (RecordRequest.Touch key) (done_by outcome)
-touch_logged key (Ok done) = refl
-touch_logged key (Err (Refused refusal)) = refl
-touch_logged key (Err OutOfMemory) = refl
-
-pub drop_logged : (key : List ℕ) (outcome : Result (Unit {0}) RecordError) →
-    entries_of Command.DropArchive key (told_of outcome) ≡ lines_by (RecordRequest.DropArchive key) (done_by outcome)
-drop_logged key (Ok done) = refl
-drop_logged key (Err (Refused refusal)) = refl
-drop_logged key (Err OutOfMemory) = refl
+use Rattle.workflow_engine.specs.Gains.{done_by, found_by, kept_by}
 
 pub find_told : (key : List ℕ) (outcome : Result (Option Row) RecordError) → IfOk outcome (λ found. IfSome found (λ row. row.key ≡ key)) →
     IfOk (found_by outcome) (CanTell (RecordRequest.Find key))

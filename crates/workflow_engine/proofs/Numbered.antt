@@ -1,6 +1,6 @@
 -- The tickets that a host gives in a run rise.
 use Rattle.std.specs.Prelude.{◌<◌, ◌≤◌, Contains, filter_map}
-use Rattle.std.proofs.Common.{◌≡◌, ◌∙◌, inl, inr, ℕ, ◌+◌, cond, List, [], ◌∷◌, ◌++◌, get_or, Result, Ok, Err, IfErr, IfOk, refl, sym, ap, subst, arith}
+use Rattle.std.proofs.Common.{◌≡◌, ◌∙◌, inl, inr, ℕ, ◌+◌, cond, List, [], ◌∷◌, ◌++◌, get_or, Result, Ok, Err, IfOk, refl, sym, ap, subst, arith}
 use Rattle.std.specs.declared.alloc.AllocError.{AllocError}
 use Rattle.std.proofs.lemmas.List.{append-nil}
 use Rattle.std.proofs.lemmas.List.Elements.{Contains-push_cases}
@@ -10,11 +10,8 @@ use Rattle.proc_host.specs.Log.{answer_behind, answer_behind_error, is_start, st
 use Rattle.proc_host.specs.declared.call.Entry.{Entry}
 use Rattle.proc_host.specs.declared.call.HostAnswer.{HostAnswer}
 use Rattle.proc_host.specs.declared.call.HostError.{HostError}
-use Rattle.run_rules.specs.Blame.{BlamesRightly, Rise, given_tickets, logged_answers, ticket_in}
-use Rattle.run_rules.specs.declared.outcome.Report.{Report}
-use Rattle.run_rules.specs.declared.outcome.RunFault.{RunFault}
+use Rattle.run_rules.specs.Blame.{Rise, given_tickets, logged_answers, ticket_in}
 use Rattle.run_rules.proofs.Rising.{given_more, none_rise, same_read}
-use Rattle.workflow_engine.specs.Blame.{HasRisingTickets}
 use Rattle.workflow_engine.specs.Gains.{answered}
 use Rattle.workflow_engine.specs.inner.Numbered.{AreNumbered, IsNumbered}
 
@@ -90,12 +87,3 @@ module _ (before : ℕ) (entries : List Entry) (entry : Entry) (so_far : AreNumb
   -- one more call
   pub numbered_more : IsNumbered (before + starts entries) entry.answer → AreNumbered before more
   numbered_more next = by_answer entry.answer refl next
-
--- so do those that nobody waits for any more
-pub rising_tickets : (entries : List Entry) (result : Result Report RunFault) → Rise (given_tickets entries) → (IfErr result (BlamesRightly entries)) → IfErr result HasRisingTickets
-rising_tickets entries (Ok report) rise blames = tt
-rising_tickets entries (Err (RunFault.Record refusal)) rise blames = tt
-rising_tickets entries (Err (RunFault.Mismatch place)) rise blames = tt
-rising_tickets entries (Err RunFault.TooManyJobs) rise blames = tt
-rising_tickets entries (Err RunFault.OutOfMemory) rise blames = tt
-rising_tickets entries (Err (RunFault.Host fault running)) rise blames = blames.started.rising rise

@@ -6,11 +6,10 @@ use Rattle.std.proofs.lemmas.List.Elements.{filter_map-append}
 use Rattle.std.specs.declared.alloc.AllocError.{AllocError}
 use Rattle.proc_host.specs.Log.{starts}
 use Rattle.proc_host.specs.declared.call.Entry.{Entry}
-use Rattle.run_core.specs.Core.{GaveUp, Took}
+use Rattle.run_core.specs.Core.{Took}
 use Rattle.run_core.specs.Machine.{Machine}
 use Rattle.run_rules.specs.Answers.{MayAnswer, by_host, by_record, flying_after}
 use Rattle.run_rules.specs.Recorded.{command_entry, lines_of}
-use Rattle.run_rules.specs.Reports.{entries_of}
 use Rattle.run_rules.specs.declared.outcome.RunFault.{RunFault}
 use Rattle.run_rules.specs.declared.request.Answer.{Answer}
 use Rattle.run_rules.specs.declared.request.Pair.{Pair}
@@ -36,20 +35,6 @@ took_told old answer result new took = record {
   lines = ap lines_of took.pair ∙ lines_more old.transcript (record { request = old.asks; answer = answer });
   flying = flies_by result new.asks _ took.flying took.finished;
   steps = took.steps;
-}
-
-waits_by : (old new : Machine) (result : Result (Unit {0}) RunFault) → GaveUp old result new → new.asks ≢ Request.Finished → new.flying ≡ old.flying
-waits_by old new (Ok done) gave going = gave.waits.flying
-waits_by old new (Err fault) gave going = absurd (going gave.finished)
-
-pub gave_up_told : (old : Machine) (error : AllocError) (result : Result (Unit {0}) RunFault) (new : Machine) → GaveUp old result new → IsTold old (Err error) new
-gave_up_told old error result new gave = record {
-  setting = gave.setting;
-  pairs = gave.same ∙ sym (append-nil old.transcript);
-  entries = ap entries_of gave.same ∙ sym (append-nil (entries_of old.transcript));
-  lines = ap lines_of gave.same ∙ sym (append-nil (lines_of old.transcript));
-  flying = waits_by old new result gave;
-  steps = gave.steps;
 }
 
 -- What one question leaves

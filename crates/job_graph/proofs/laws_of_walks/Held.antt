@@ -24,7 +24,8 @@ use Rattle.staging.specs.declared.measure.Measure.{Measure}
 use Rattle.staging.specs.declared.measure.Measure.TheVariants as measure
 use Rattle.job_graph.specs.Words.{Name, Fields, JobPlace, is_same_place}
 use Rattle.cwl_value.specs.Fileless.{some_true}
-use Rattle.job_graph.specs.Made.{any_made, dir_holds, dir_value_moved, file_holds, file_value_moved, holds_made, is_of, listing_holds, made_place, value_moved}
+use Rattle.cwl_value.specs.Placed.{dir_value_moved, file_value_moved, value_moved}
+use Rattle.job_graph.specs.Made.{any_made, dir_holds, file_holds, holds_made, is_of, listing_holds, made_place}
 use Rattle.job_graph.proofs.laws_of_walks.Part.{neither_one, neither_other}
 use Rattle.job_graph.proofs.laws_of_walks.Passed.{Each, EachField, Inside, Passes, all_made, all_map, all_both}
 

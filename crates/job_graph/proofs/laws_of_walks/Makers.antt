@@ -18,7 +18,8 @@ use Rattle.link_values.specs.StepInputs.{value_under}
 use Rattle.plain_data.specs.ByName.{map_values}
 use Rattle.job_graph.specs.Words.{Name, Fields, JobPlace, is_same_place}
 use Rattle.job_graph.specs.Inputs.{root_fields}
-use Rattle.job_graph.specs.Made.{any_made, fields_made, holds_made, made_place, value_moved}
+use Rattle.cwl_value.specs.Placed.{value_moved}
+use Rattle.job_graph.specs.Made.{any_made, fields_made, holds_made, made_place}
 use Rattle.job_graph.specs.Jobs.{Job, met_job}
 use Rattle.job_graph.specs.Equations.{walker}
 use Rattle.job_graph.specs.Unfold.{Known, Resolved, known_from, made_at, made_by, outputs_at, parents_from, unfolded}

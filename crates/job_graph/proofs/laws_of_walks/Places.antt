@@ -235,9 +235,6 @@ workflow_places F workflow apart fans place found =
 
 -- ---- any process
 
-tool_differs : (tool : Tool) → ids_differ (process.Tool tool) ≡ true
-tool_differs tool = search (rules, the_lemmas)
-
 pub workflow_differs : (w : Workflow) → ids_differ (process.Workflow w) ≡ workflow_ids_differ w
 workflow_differs w = search (rules, the_lemmas)
 
@@ -315,9 +312,3 @@ pub seen_workflow : (w : Workflow) → IsDistinct bytes_eq (keys_of (out-Workflo
 seen_workflow w distinct inside =
     ap workflow_ids_differ (sym (roll-out-Workflow w)) ∙ steps_differ (out-Workflow w)
     ∙ ap₂ (λ (a b : Bool). a && b) (ap differ (sym (same_ids (out-Workflow w).steps)) ∙ names_differ (keys_of (out-Workflow w).steps) distinct) (sym (all_inside (out-Workflow w).steps) ∙ inside)
-
-pub seen_tool : (tool : Tool) → ids_differ (process.Tool tool) ≡ true
-seen_tool tool = tool_differs tool
-
-pub seen_process : (w : Workflow) → workflow_ids_differ w ≡ true → ids_differ (process.Workflow w) ≡ true
-seen_process w seen = workflow_differs w ∙ seen

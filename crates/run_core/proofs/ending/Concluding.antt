@@ -1,5 +1,5 @@
 -- What is reported of the machine's run where it has ended.
-use Rattle.std.proofs.Common.{◌≡◌, true, List, [], Result, Ok, Err, IfErr, sym, ap, subst, append-nil}
+use Rattle.std.proofs.Common.{◌≡◌, true, List, [], Result, Err, sym, subst, append-nil}
 use Rattle.plan_checker.specs.declared.plan.Mark.{Mark}
 use Rattle.job_graph.specs.Apart.{ids_differ}
 use Rattle.job_graph.specs.Eval.{World}
@@ -123,13 +123,3 @@ module _ (core : Inside) where
   has_ended stands = ended_so stands.going
 
 -- Of the report
-
--- only out of memory is reported as that
-pub reports_lost : (plans : List PlanNote) (notes : List Note) (result : Result Outcome RunFault) → reported plans notes result ≡ Err RunFault.OutOfMemory → result ≡ Err RunFault.OutOfMemory
-reports_lost plans notes (Ok outcome) is = absurd cc
-reports_lost plans notes (Err fault) is = let same : fault ≡ RunFault.OutOfMemory = cc in ap Err same
-
--- a fault is reported as it is
-pub reports_fault : (P : RunFault → Type 0) (plans : List PlanNote) (notes : List Note) (result : Result Outcome RunFault) → IfErr result P → IfErr (reported plans notes result) P
-reports_fault P plans notes (Ok outcome) holds = tt
-reports_fault P plans notes (Err fault) holds = holds

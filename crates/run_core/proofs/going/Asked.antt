@@ -6,7 +6,7 @@ use Rattle.plan_checker.specs.declared.plan.Mark.{Mark}
 use Rattle.proc_host.specs.declared.call.HostRequest.{HostRequest}
 use Rattle.collected_outputs.specs.Contents.{Heads}
 use Rattle.collected_outputs.specs.HeadsWanted.{limit_of}
-use Rattle.input_files.specs.declared.contents.TheConstants.{MOST_CONTENTS}
+use Rattle.cwl_value.specs.declared.value.TheConstants.{MOST_CONTENTS}
 use Rattle.staging.specs.Groups.{path_in}
 use Rattle.staging.specs.declared.found.Found.{Found}
 use Rattle.staging.specs.declared.plan.StagePlan.{StagePlan}

@@ -1,5 +1,5 @@
 -- Where nothing is due, what the machine turns to is what its run may ask then, or how it ends.
-use Rattle.std.specs.Prelude.{Ok, ◌<◌, ◌≤◌, ◌≢◌, ◌||◌, ◌&&◌, not, Contains, IsSome, is_some, Result, option_map, unwrap_or, slice_get}
+use Rattle.std.specs.Prelude.{Ok, ◌<◌, ◌≤◌, ◌≢◌, ◌&&◌, not, Contains, IsSome, is_some, Result, option_map, unwrap_or, slice_get}
 use Rattle.std.proofs.Common.{◌≡◌, ◌∙◌, ◌+◌, ℕ, Bool, true, false, List, [], ◌∷◌, length, Option, Some, None, refl, sym, ap, subst, arith}
 use Rattle.plan_checker.specs.Plan.{mark}
 use Rattle.plan_checker.specs.declared.plan.Mark.{Mark}
@@ -7,7 +7,7 @@ use Rattle.plan_checker.specs.declared.plan.Mark.TheVariants.{Compute, Load, Pru
 use Rattle.staging.specs.Plan.{IsPlan}
 use Rattle.job_graph.specs.declared.unfolding.Unfolding.{Unfolding}
 use Rattle.job_graph.specs.Jobs.{Job, Walker}
-use Rattle.job_graph.specs.Made.{fields_moved, value_moved}
+use Rattle.cwl_value.specs.Placed.{fields_moved, value_moved}
 use Rattle.job_graph.specs.Unfold.{Resolved, Unfolded, outputs_at, unfolded}
 use Rattle.job_graph.specs.Words.{Fields, JobPlace, last_by_name}
 use Rattle.run_rules.specs.declared.outcome.Outcome.{Outcome}
@@ -27,7 +27,7 @@ use Rattle.run_rules.specs.Scene.{Scene}
 use Rattle.run_rules.proofs.PlacesErased.{map_by_name}
 use Rattle.run_rules.proofs.events.Asks.{NoneMayFetch, may_collect, may_collect_settled, may_deliver, may_find}
 use Rattle.run_rules.proofs.events.Course.{Course as Books, Keeps as AreKept}
-use Rattle.run_rules.proofs.events.Flights.{Flight as Flying, is_flying}
+use Rattle.run_rules.proofs.events.Flights.{is_flying}
 use Rattle.run_rules.proofs.events.Known.{unfolding_when}
 use Rattle.run_rules.proofs.events.Places.{IsJob, AreApart}
 use Rattle.run_rules.proofs.events.Kept.{all_resolved, loaded_can}
@@ -60,9 +60,6 @@ use Rattle.run_core.proofs.PlansKept.{marks_kept}
 use Rattle.run_core.proofs.events.Families.{as_many, ready_computes, ready_if, ready_parents, ready_waits}
 use Rattle.run_core.proofs.events.Numbers.{fetched_is_kept, job_there, number_is_kept}
 use Rattle.run_core.proofs.events.Reflecting.{FliesThere, Laws, flies_there}
-
-nor_flies : (flying : List Flying) (place : JobPlace) (at : Bool) → flying ≡ [] → (is_flying flying place || at) ≡ true → at ≡ true
-nor_flies flying place at none held = ap (λ (fs : List Flying). is_flying fs place || at) (sym none) ∙ held
 
 -- What is known
 

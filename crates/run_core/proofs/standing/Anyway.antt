@@ -13,7 +13,7 @@ use Rattle.collected_outputs.specs.Laws.{EveryFolderHasOutputsOrAFault}
 use Rattle.collected_outputs.specs.Listing.{listing_of}
 use Rattle.command_line.specs.Laws.{LaunchOrRefusal}
 use Rattle.input_files.specs.Contents.{heads_wanted, with_contents}
-use Rattle.input_files.specs.declared.contents.TheConstants.{MOST_CONTENTS}
+use Rattle.cwl_value.specs.declared.value.TheConstants.{MOST_CONTENTS}
 use Rattle.input_files.specs.declared.fault.ContentsFault.{ContentsFault}
 use Rattle.plain_data.specs.ByName.{with_value}
 use Rattle.proc_host.specs.Answers.{CanAnswer, fault_of, is_measured, is_staged, is_started, has_ended, is_listed, is_read, is_delivered, is_stored, is_discarded, has_failed, is_fetched}

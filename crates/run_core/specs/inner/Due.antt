@@ -9,7 +9,7 @@ use Rattle.collected_outputs.specs.declared.fault.OutputFault.{OutputFault}
 use Rattle.command_line.specs.Launch.{IsLaunch, IsRefused}
 use Rattle.command_line.specs.declared.fault.BuildFault.{BuildFault}
 use Rattle.command_line.specs.declared.launch.Launch.{Launch}
-use Rattle.input_files.specs.declared.contents.TheConstants.{MOST_CONTENTS}
+use Rattle.cwl_value.specs.declared.value.TheConstants.{MOST_CONTENTS}
 use Rattle.plain_data.specs.ByName.{with_value}
 use Rattle.proc_host.specs.declared.call.HostRequest.{HostRequest}
 use Rattle.staging.specs.Groups.{path_in}

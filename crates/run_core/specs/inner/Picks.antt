@@ -26,7 +26,7 @@ use Rattle.run_rules.specs.Delivered.{any_file, located, source_place}
 use Rattle.run_rules.specs.Events.{is_reusable}
 use Rattle.run_rules.specs.Folders.{in_folder, left_folder, out_folder}
 use Rattle.job_graph.specs.Jobs.{Job}
-use Rattle.job_graph.specs.Made.{fields_moved}
+use Rattle.cwl_value.specs.Placed.{fields_moved}
 use Rattle.job_graph.specs.Words.{Name, Fields, JobPlace, last_by_name}
 use Rattle.run_core.specs.declared.site.Site.{Site}
 use Rattle.run_core.specs.declared.state.Course.{Course}

@@ -1,31 +1,15 @@
 -- Where the files of values go: from the job that made them to their paths, and to locations.
-use Rattle.std.specs.Prelude.{ℕ, Bool, false, Option, None, Some, List}
+use Rattle.std.specs.Prelude.{ℕ, Bool, false, Option, None, Some}
 use Rattle.cwl_value.specs.declared.place.Place.{Place}
-use Rattle.cwl_value.specs.declared.value.Value.{Value, roll-Value}
-use Rattle.cwl_value.specs.declared.value.FileVal.{FileVal, fold-FileVal, out-FileVal, roll-FileVal}
-use Rattle.cwl_value.specs.declared.value.DirVal.{DirVal, fold-DirVal}
 use Rattle.job_graph.specs.Words.{JobPlace}
 use Rattle.run_rules.specs.Delivered.{source_place, location_place}
 use Rattle.run_rules.specs.Folders.{left_folder}
-use Rattle.job_graph.specs.Made.{file_moved, dir_moved}
 use Rattle.run_core.specs.declared.places.Sources.{Sources}
 use Rattle.run_core.specs.declared.places.Way.{Way}
 use Rattle.run_core.specs.declared.places.Way.TheVariants as way
 use Rattle.run_core.specs.declared.folders.Left.{Left}
 use Rattle.run_core.specs.declared.job_states.JobState.{JobState}
 use Rattle.run_core.specs.inner.Course.{fetched_in, known_in, number_in}
-
--- what is not a value itself
-
-abbrev pub file_elsewhere : (Place → Place) → FileVal → FileVal
-file_elsewhere move = fold-FileVal Value DirVal FileVal roll-Value (dir_moved move) (file_moved move)
-
-abbrev pub dir_elsewhere : (Place → Place) → DirVal → DirVal
-dir_elsewhere move = fold-DirVal Value DirVal FileVal roll-Value (dir_moved move) (file_moved move)
-
--- a File at a place, beside these files
-abbrev pub file_with : FileVal → Place → List Value → FileVal
-file_with file place secondary = roll-FileVal (record (out-FileVal file) { place = place; secondary = secondary })
 
 -- the number of the folders of the job at a place, and whether these are of a fetch
 abbrev pub number_at_source : Sources → JobPlace → ℕ

@@ -23,3 +23,11 @@ AreFlaggedBelow known needed graph n =
 -- the vertex is needed or not as this says, or free
 abbrev pub IsFlaggedOrFree : List Bool → List Vertex → ℕ → Type 0
 IsFlaggedOrFree needed graph n = ((vertex graph n).needed ≡ slice_index_or needed n false) ⊎ IsFree (vertex graph n)
+
+-- the vertex is free, and needed or not as this says
+abbrev pub IsFreedAs : List Bool → List Vertex → ℕ → Type 0
+IsFreedAs needed graph n = IsFree (vertex graph n) × ((vertex graph n).needed ≡ slice_index_or needed n false)
+
+-- the vertex is needed or not as one of these says
+abbrev pub IsFlaggedEither : List Bool → List Bool → List Vertex → ℕ → Type 0
+IsFlaggedEither before needed graph n = ((vertex graph n).needed ≡ slice_index_or before n false) ⊎ ((vertex graph n).needed ≡ slice_index_or needed n false)

@@ -8,7 +8,7 @@ use Rattle.staging.specs.declared.found.Found.{Found}
 use Rattle.staging.specs.declared.plan.StagePlan.{StagePlan}
 use Rattle.run_rules.specs.declared.request.Request.{Request}
 use Rattle.job_graph.specs.Words.{Fields, JobPlace}
-use Rattle.job_graph.specs.Made.{fields_moved}
+use Rattle.cwl_value.specs.Placed.{fields_moved}
 use Rattle.run_rules.specs.Folders.{in_folder}
 use Rattle.job_graph.specs.Jobs.{Job}
 use Rattle.run_rules.specs.Scene.{Scene}

@@ -14,7 +14,8 @@ use Rattle.plan_checker.specs.Plan.{IsAllowed, IsValid, mark}
 use Rattle.staging.proofs.Planned.{value_plan}
 use Rattle.staging.specs.declared.found.Found.{Found}
 use Rattle.job_graph.specs.Jobs.{Job}
-use Rattle.job_graph.specs.Made.{any_made, fields_moved}
+use Rattle.cwl_value.specs.Placed.{fields_moved}
+use Rattle.job_graph.specs.Made.{any_made}
 use Rattle.job_graph.specs.PresentJobGraph.{is_needed}
 use Rattle.job_graph.specs.Unfold.{outputs_at}
 use Rattle.job_graph.specs.Words.{JobPlace, is_same_place}

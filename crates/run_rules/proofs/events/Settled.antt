@@ -51,12 +51,6 @@ quiet_teaches_nothing (job_succeeded place outputs) quiet = absurd cc
 quiet_teaches_nothing (row_found place row) quiet = absurd cc
 quiet_teaches_nothing _ quiet = refl
 
-pub quiet_teach_nothing : (new : List Event) → list_all is_quiet new ≡ true → list_any teaches new ≡ false
-quiet_teach_nothing [] quiet = refl
-quiet_teach_nothing (e ∷ new) quiet =
-    ap (λ b. b || list_any teaches new) (quiet_teaches_nothing e (and_parts (is_quiet e) (list_all is_quiet new) quiet).0)
-    ∙ quiet_teach_nothing new (and_parts (is_quiet e) (list_all is_quiet new) quiet).1
-
 module _ (s : Scene) where
   pub settled_split : (acc xs ys : List Event) → settled_from s acc (xs ++ ys) ≡ or_else (settled_from s acc xs) (settled_from s (acc ++ xs) ys)
   settled_split acc [] ys = ap (λ (es : List Event). settled_from s es ys) (sym (append-nil acc))

@@ -9,7 +9,7 @@ use Rattle.staging.specs.Plan.{IsPlan}
 use Rattle.staging.specs.declared.found.Found.{Found}
 use Rattle.staging.specs.declared.plan.StagePlan.{StagePlan}
 use Rattle.job_rows.specs.declared.row.Row.{Row}
-use Rattle.job_graph.specs.Made.{fields_moved}
+use Rattle.cwl_value.specs.Placed.{fields_moved}
 use Rattle.run_rules.specs.Delivered.{source_place}
 use Rattle.run_rules.specs.Folders.{in_folder}
 use Rattle.job_graph.specs.Jobs.{Job}

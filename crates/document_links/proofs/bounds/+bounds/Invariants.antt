@@ -2,7 +2,7 @@ use Rattle.std.proofs.Common.{◌≡◌, ◌+◌, ◌*◌, drop, map}
 use Rattle.document_table.specs.Entries.{entry_seen}
 use Rattle.document_links.specs.Bounds.{left, steps_left}
 use Rattle.document_links.specs.Homes.{home_seen}
-use Rattle.document_links.specs.Library.{finds_in}
+use Rattle.document_links.specs.Targets.{leads_in}
 use Rattle.document_links.proofs.bounds.+bounds.Given as goal
 
 -- Each workflow inside another takes a level; on one level the functions call one another in this order.
@@ -30,5 +30,5 @@ decreases-workflow_left l = 7 * l.levels + 5
 
 abbrev pub invariant-steps_left-loop-entry : goal.invariant-steps_left-loop-entry
 invariant-steps_left-loop-entry l =
-    steps_left (left (finds_in l.library) l.levels) (finds_in l.library) l.still (home_seen l.home) (map entry_seen (drop l.entry-index l.all))
-    ≡ steps_left (left (finds_in l.library) l.levels) (finds_in l.library) l.room (home_seen l.home) (map entry_seen l.all)
+    steps_left (left (leads_in l.library) l.levels) (leads_in l.library) l.still (home_seen l.home) (map entry_seen (drop l.entry-index l.all))
+    ≡ steps_left (left (leads_in l.library) l.levels) (leads_in l.library) l.room (home_seen l.home) (map entry_seen l.all)

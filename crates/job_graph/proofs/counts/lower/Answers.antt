@@ -2,7 +2,7 @@ use Rattle.std.proofs.Common.{◌≡◌, ◌∙◌, ℕ, Bool, ap, ap₂, arith,
 use Rattle.std.proofs.lemmas.List.Sums.{sum_by_more, sum_by_more_le}
 use Rattle.job_graph.specs.declared.readers.Awaited.{Awaited}
 use Rattle.job_graph.specs.inner.Counts.{is_new, times}
-use Rattle.job_graph.proofs.Lowering.{lowers_none, lowers_then}
+use Rattle.job_graph.proofs.Lowering.{lowers_then}
 use Rattle.job_graph.proofs.counts.lower.Goals as goal
 
 pub lower_each-requires : goal.lower_each-requires

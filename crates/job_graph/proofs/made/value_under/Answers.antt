@@ -6,4 +6,4 @@ pub returns-in-None : goal.returns-in-None
 returns-in-None c = c.nothing.ensures ∙ made_none c.args.place.now c.args.name.now c.args.outputs.now (search rules)
 
 pub returns-in-Some : goal.returns-in-Some
-returns-in-Some c = rw (sym (made_some c.args.place.now c.args.name.now c.args.outputs.now c.in-Some.value.now (search rules))) c.value_made.ensures
+returns-in-Some c = rw (sym (made_some c.args.place.now c.args.name.now c.args.outputs.now c.in-Some.value.now (search rules))) c.placed.ensures

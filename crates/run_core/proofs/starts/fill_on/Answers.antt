@@ -1,5 +1,5 @@
 use Rattle.std.proofs.Common.{◌≡◌, ◌∙◌, List, [], length, reverse, take, ◌-◌, sym, ap, subst, arith}
-use Rattle.input_files.specs.declared.contents.TheConstants.{MOST_CONTENTS}
+use Rattle.cwl_value.specs.declared.value.TheConstants.{MOST_CONTENTS}
 use Rattle.proc_host.specs.declared.call.HostRequest.{HostRequest}
 use Rattle.job_graph.specs.Words.{Name}
 use Rattle.run_core.specs.declared.state.JobNext.{JobNext}

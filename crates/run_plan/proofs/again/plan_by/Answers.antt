@@ -11,18 +11,28 @@ use Rattle.run_plan.specs.inner.Again.{vertices_of}
 use Rattle.run_plan.specs.Brought.{StaysApart}
 use Rattle.run_plan.specs.Planned.{IsPlanOf}
 use Rattle.run_plan.proofs.Apart.{anew_exactly}
-use Rattle.run_plan.proofs.Brought.{are_present}
+use Rattle.run_plan.proofs.Brought.{are_present, flags_present}
 use Rattle.run_plan.proofs.again.plan_by.Goals as goal
+
+pub apart-requires-clause-needed : goal.apart-requires-clause-needed
+apart-requires-clause-needed c =
+    let known = c.args.known.now in
+    let costs = c.args.costs.now in
+    let flags = c.as_slice.result.now in
+    let brought = subst (λ (found : Option Planned). IfSome found (λ made. IsKeptApart made × (made.graph ≡ vertices_of c.known.result.now costs flags))) c.in-Some.is c.in_ok-made.ensures.made in
+    sym c.as_slice.ensures.value
+    ∙ flags_present known.learned known.outs c.known.result.now costs flags known.known c.in-Some.made.graph c.known.ensures.jobs (c.as_slice.ensures.value ∙ c.requires.needed) c.requires.each
+    brought.1
 
 pub returns-in-Some-clause-ok : goal.returns-in-Some-clause-ok
 returns-in-Some-clause-ok c =
     let known = c.args.known.now in
     let made = c.in-Some.made in
-    let brought = subst (λ (found : Option Planned). IfSome found (λ made. IsKeptApart made × (made.graph ≡ vertices_of c.known.result.now c.args.costs.now c.args.needed.now))) c.in-Some.is
+    let brought = subst (λ (found : Option Planned). IfSome found (λ made. IsKeptApart made × (made.graph ≡ vertices_of c.known.result.now c.args.costs.now c.as_slice.result.now))) c.in-Some.is
     c.in_ok-made.ensures.made in
     let graph : made.graph ≡ present_job_graph known.learned known.known known.outs c.args.costs.now =
     brought.1
-    ∙ are_present known.learned known.outs c.known.result.now c.args.costs.now c.args.needed.now known.known c.known.ensures.jobs c.known.ensures.parents c.requires.needed in
+    ∙ are_present known.learned known.outs c.known.result.now c.args.costs.now c.as_slice.result.now known.known c.known.ensures.jobs c.known.ensures.parents (c.as_slice.ensures.value ∙ c.requires.needed) in
     let plan = c.kept_is_planned.ensures made brought.0 in
     subst (IsPlanOf (present_job_graph known.learned known.known known.outs c.args.costs.now)) (sym c.apart.ensures) (record {
       its_graph = graph;
@@ -37,7 +47,7 @@ returns-in-Some-clause-brought c =
     let present : List Vertex = present_job_graph known.learned known.known known.outs c.args.costs.now in
     let exact =
     subst (λ (graph : List Vertex). IsSome c.in_ok-made.field-0 ↔ StaysApart c.args.made.graph graph)
-    (are_present known.learned known.outs c.known.result.now c.args.costs.now c.args.needed.now known.known c.known.ensures.jobs c.known.ensures.parents c.requires.needed)
+    (are_present known.learned known.outs c.known.result.now c.args.costs.now c.as_slice.result.now known.known c.known.ensures.jobs c.known.ensures.parents (c.as_slice.ensures.value ∙ c.requires.needed))
     c.in_ok-made.ensures.found in
     subst (λ (found : Option Planned). IsSome found ↔ StaysApart c.args.made.graph present) c.in-Some.is exact
 
@@ -47,7 +57,7 @@ returns-in-None-clause-brought c =
     let present : List Vertex = present_job_graph known.learned known.known known.outs c.args.costs.now in
     let exact =
     subst (λ (graph : List Vertex). IsSome c.in_ok-made.field-0 ↔ StaysApart c.args.made.graph graph)
-    (are_present known.learned known.outs c.known.result.now c.args.costs.now c.args.needed.now known.known c.known.ensures.jobs c.known.ensures.parents c.requires.needed)
+    (are_present known.learned known.outs c.known.result.now c.args.costs.now c.as_slice.result.now known.known c.known.ensures.jobs c.known.ensures.parents (c.as_slice.ensures.value ∙ c.requires.needed))
     c.in_ok-made.ensures.found in
     let none = subst (λ (found : Option Planned). IsSome found ↔ StaysApart c.args.made.graph present) c.in-None.is exact in
     anew_exactly (StaysApart c.args.made.graph present) c.plan_anew.result c.plan_anew.ensures.anew (λ can. let never : false ≡ true = none.1 can in absurd cc)

@@ -19,8 +19,8 @@ pub returns-in-Err-clause-stays : goal.returns-in-Err-clause-stays
 returns-in-Err-clause-stays c =
     never_refused _ _ c.plan_anew-in-Err.result (ap (λ (known : Unfolding). known.refused) c.needed.ensures.same ∙ c.in_ok-needed.ensures.goes_on) c.plan_anew-in-Err.ensures.err
 
-pub returns-clause-brought : goal.returns-clause-brought
-returns-clause-brought c =
+pub returns-in-Ok-clause-brought : goal.returns-in-Ok-clause-brought
+returns-in-Ok-clause-brought c =
     let graph : List Vertex = present_job_graph c.args.known.now.learned c.args.known.now.known c.args.known.now.outs c.args.costs.now in
     brought_as (StaysApart c.in-Ok.made.graph graph) (CanBeBrought c.args.last.now graph) c.plan_by.result
     (last_stays c.args.last.now c.in-Some.kept c.in-Ok.made.graph graph (sym c.replace.ensures.value ∙ c.in-Some.is) c.in-Ok.ensures.ok.1)

@@ -2,7 +2,6 @@ use Rattle.std.specs.Prelude.{IsTrue, drop, slice_index_or, slice_set}
 use Rattle.std.proofs.Common.{rules, ◌≡◌, ◌⊎◌, ◌∙◌, ◌+◌, ◌<◌, ◌≤◌, ℕ, List, None, ap, length, map, refl, sym, true≢false}
 use Rattle.std.proofs.lemmas.List.{get_or_default}
 use Rattle.job_graph.specs.declared.costs.Costs.{Costs}
-use Rattle.plan_checker.specs.Graph.{vertex}
 use Rattle.run_plan.specs.Brought.{AreFree}
 use Rattle.run_plan.specs.Touched.{costs_in}
 use Rattle.run_plan.proofs.FewBrought.{drop_one, freed_on, freeing_done, freeing_more, not_freeing, patched_more}
@@ -27,7 +26,7 @@ loop-one-preserved c =
       still = freeing_more (map costs_in c.args.made.now.graph) (map costs_in c.loop-one.made.graph) (map costs_in c.bring_costs.new.made.graph) c.args.changed.now (drop i c.args.changed.now)
           (drop (i + 1) c.args.changed.now) one c.loop-one.invariant.still (drop_one c.args.changed.now i one within read) takes step;
       freed = λ n.
-          freed_on (vertex c.args.made.now.graph n) (vertex c.loop-one.made.graph n) (vertex c.bring_costs.new.made.graph n) (c.loop-one.invariant.freed n) (c.bring_costs.ensures.freed yes n);
+          freed_on c.args.needed.now c.args.made.now.graph c.loop-one.made.graph c.bring_costs.new.made.graph n (c.loop-one.invariant.freed n) (c.bring_costs.ensures.freed yes n);
     }
 
 pub returns-then-not-bring_costs-clause-exact : goal.returns-then-not-bring_costs-clause-exact

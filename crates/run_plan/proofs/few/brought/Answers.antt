@@ -6,8 +6,13 @@ use Rattle.run_plan.specs.Brought.{AreFreeing, AreStaying, IsGraphApart}
 use Rattle.run_plan.specs.Touched.{costs_after, costs_in}
 use Rattle.run_plan.specs.inner.Again.{vertices_of}
 use Rattle.run_plan.proofs.Apart.{few_found}
-use Rattle.run_plan.proofs.FewBrought.{flags_by_staying, staying_by_flags}
+use Rattle.run_plan.proofs.FewBrought.{flagged_either, flags_by_staying, staying_by_flags}
 use Rattle.run_plan.proofs.few.brought.Goals as goal
+
+pub bring_flags-requires-clause-either : goal.bring_flags-requires-clause-either
+bring_flags-requires-clause-either c = λ n within.
+    flagged_either c.args.before.now c.args.needed.now c.args.made.graph c.bring_changed.new.made.graph n c.requires.before (omega (arith, within, c.bring_changed.ensures.count))
+    (c.bring_changed.ensures.freed c.if-not-bring_changed.false n)
 
 pub returns-then-not-bring_flags-clause-found : goal.returns-then-not-bring_flags-clause-found
 returns-then-not-bring_flags-clause-found c =

@@ -4,7 +4,7 @@ use Rattle.std.proofs.lemmas.List.{nil_from_length}
 use Rattle.plain_data.specs.ByName.{IsByName}
 use Rattle.document_links.specs.Library.{IsLookUp, finds_among}
 use Rattle.document_links.specs.inner.Sound.{AllSound}
-use Rattle.document_links.proofs.Made.{AreMade, all_held, all_made, all_sound, by_name, found_in, made_more, whole_more}
+use Rattle.document_links.proofs.Made.{AreMade, all_held, all_made, all_sound, by_name, found_in, made_more, read_leads, whole_more}
 use Rattle.document_links.proofs.docs.Docs.of.Goals as goal
 
 pub loop-url-preserved : goal.loop-url-preserved
@@ -38,4 +38,5 @@ invariant_of-result c =
       subst (λ bytes. IsLookUp bytes (finds_among c.from_sorted-2.result)) (sym (c.from_sorted.ensures ∙ held))
           (subst (λ readings. IsLookUp c.args.documents (finds_among readings)) (sym c.from_sorted-2.ensures) (found_in c.args.documents c.loop-url.readings.items made)),
       subst AllSound (sym c.from_sorted-2.ensures) (all_sound c.args.documents c.loop-url.readings.items made),
+      read_leads c.from_sorted-2.result,
     )
