@@ -158,17 +158,13 @@ fn say<O: Write, E: Write>(alloc: Global, end: &End, out: &mut O, err: &mut E) -
 // Says that standard output did not take what goes there, if that is to be explained.
 fn tell_unwritten<E: Write>(end: &End, error: &io::Error, err: &mut E) {
     let is_of_memory = matches!(error.kind(), io::ErrorKind::OutOfMemory);
-    if end.explains && !is_of_memory && is_for_output(&end.run.exit) {
+    let is_for_output = matches!(
+        &end.run.exit,
+        Exit::Output(_) | Exit::Plan(_) | Exit::Broken(_) | Exit::Record(Ending::Rows(_))
+    );
+    if end.explains && !is_of_memory && is_for_output {
         let _told = writeln!(err, "standard output can't be written: {error}");
     }
-}
-
-// Whether an end is said on standard output.
-fn is_for_output(exit: &Exit) -> bool {
-    matches!(
-        exit,
-        Exit::Output(_) | Exit::Plan(_) | Exit::Broken(_) | Exit::Record(Ending::Rows(_))
-    )
 }
 
 // Writes the line of an end, and behind it the words that it is to be explained in, the notes on it, what became of the jobs, and where the

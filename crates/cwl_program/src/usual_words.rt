@@ -16,14 +16,10 @@ pub fn answer_words<E: Write>(words: &[String], err: &mut E) {
         return;
     }
     for word in words {
-        answer_word(word.as_str(), err);
-    }
-}
-
-fn answer_word<E: Write>(word: &str, err: &mut E) {
-    let option = option_in(word);
-    if let Some(answer) = answer_to(option) {
-        let _told = writeln!(err, "`{option}`: {answer}");
+        let option = option_in(word.as_str());
+        if let Some(answer) = answer_to(option) {
+            let _told = writeln!(err, "`{option}`: {answer}");
+        }
     }
 }
 

@@ -9,7 +9,6 @@ use cwl_value::{FileField, ValueRefusal};
 use document_links::LinkFault;
 use document_table::{Cause, DocumentFault};
 use end_words::{Exit, Refusal};
-use plain_data::Text;
 use process_machine::World;
 use run_facts::words_for;
 use run_given::{Call, bytes_of_file, file_of, path_at};
@@ -33,7 +32,10 @@ pub fn advice_on<R: World>(rt: &R, exit: &Exit, call: &Call<'_>) -> Vec<String> 
 fn lines_on<R: World>(rt: &R, exit: &Exit, call: &Call<'_>) -> Result<Vec<String>, AllocError> {
     match exit {
         Exit::Refused(Refusal::Document(LinkFault::Document(url, fault))) => {
-            document_lines(rt, url, fault)
+            match path_at(rt.alloc(), url)? {
+                Some(path) => fault_lines(rt, path.as_str(), fault),
+                None => Ok(Vec::new(rt.alloc())),
+            }
         }
         Exit::Refused(Refusal::Links(fault)) => links_again(rt, call, fault),
         Exit::Refused(Refusal::Inputs(refusal)) => {
@@ -41,17 +43,6 @@ fn lines_on<R: World>(rt: &R, exit: &Exit, call: &Call<'_>) -> Result<Vec<String
         }
         Exit::Refused(Refusal::Location(_)) => location_lines(rt, call),
         _ => Ok(Vec::new(rt.alloc())),
-    }
-}
-
-fn document_lines<R: World>(
-    rt: &R,
-    url: &Text,
-    fault: &DocumentFault,
-) -> Result<Vec<String>, AllocError> {
-    match path_at(rt.alloc(), url)? {
-        Some(path) => fault_lines(rt, path.as_str(), fault),
-        None => Ok(Vec::new(rt.alloc())),
     }
 }
 
@@ -94,15 +85,11 @@ fn inputs_lines<R: World>(
 fn location_lines<R: World>(rt: &R, call: &Call<'_>) -> Result<Vec<String>, AllocError> {
     let lines = locations_again(rt, call)?;
     match file_of(call.words.inputs) {
-        Some(file) if lines.is_empty() => input_location_lines(rt, file),
+        Some(file) if lines.is_empty() => match bytes_of_file(rt, file) {
+            Ok(bytes) => input_lines(rt.alloc(), bytes.as_slice()),
+            Err(_) => Ok(Vec::new(rt.alloc())),
+        },
         _ => Ok(lines),
-    }
-}
-
-fn input_location_lines<R: World>(rt: &R, file: &str) -> Result<Vec<String>, AllocError> {
-    match bytes_of_file(rt, file) {
-        Ok(bytes) => input_lines(rt.alloc(), bytes.as_slice()),
-        Err(_) => Ok(Vec::new(rt.alloc())),
     }
 }
 

@@ -51,7 +51,8 @@ fn add_of<'a>(
 ) -> Result<(), AllocError> {
     let place = spot.place.as_str();
     if let Some(step) = spot.step {
-        add_of_step(alloc, place, step, lines)?;
+        let scope = scope_of_step(alloc, step)?;
+        add_placed(alloc, place, &scope, step_texts(alloc, step)?, lines)?;
     }
     match spot.process {
         Process::Tool(tool) => add_of_tool(alloc, place, tool, lines),
@@ -89,16 +90,6 @@ fn add_of_tool(
         add_placed(alloc, place, &scope, output_texts(alloc, output)?, lines)?;
     }
     Ok(())
-}
-
-fn add_of_step(
-    alloc: Global,
-    place: &str,
-    step: &Step,
-    lines: &mut Vec<String>,
-) -> Result<(), AllocError> {
-    let scope = scope_of_step(alloc, step)?;
-    add_placed(alloc, place, &scope, step_texts(alloc, step)?, lines)
 }
 
 fn add_placed(

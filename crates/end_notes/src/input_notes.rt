@@ -32,15 +32,13 @@ pub fn misfit_lines(alloc: Global, given: &Given, input: &Text) -> Result<Vec<St
 // The value of an input, or the default in place of null.
 fn value_of<'a>(given: &'a Given, input: &str) -> Option<&'a Value> {
     match given.inputs.get(input) {
-        None | Some(Value::Null) => default_of(&given.process, input),
+        None | Some(Value::Null) => match &given.process {
+            Process::Tool(tool) => find_in(tool.inputs.as_slice(), input)?.default.as_ref(),
+            Process::Workflow(workflow) => {
+                find_in(workflow.inputs.as_slice(), input)?.default.as_ref()
+            }
+        },
         value => value,
-    }
-}
-
-fn default_of<'a>(process: &'a Process, input: &str) -> Option<&'a Value> {
-    match process {
-        Process::Tool(tool) => find_in(tool.inputs.as_slice(), input)?.default.as_ref(),
-        Process::Workflow(workflow) => find_in(workflow.inputs.as_slice(), input)?.default.as_ref(),
     }
 }
 
@@ -133,15 +131,11 @@ fn one_beside_lines(
     };
     let name = secondary_name(alloc, declared.pattern.as_str(), basename.as_str())?;
     let beside = path_beside(alloc, path.as_str(), name.as_str())?;
-    if declared.required && is_absent(log, beside.as_str()) {
+    if declared.required && matches!(measure_of(log, beside.as_str()), Some(Measure::Absent)) {
         let line_of_it = format!(in alloc; "there is no file {beside} beside {path}")?;
         return line(alloc, line_of_it.as_str());
     }
     Ok(Vec::new(alloc))
-}
-
-fn is_absent(log: &[Entry], path: &str) -> bool {
-    matches!(measure_of(log, path), Some(Measure::Absent))
 }
 
 // The path of a name in the folder of another path.

@@ -1,11 +1,11 @@
 //! What is said of a link that is wrong: what it names, and what there is.
 
-use crate::link_places::{Site, names_of, outputs_of, site_at, workflow_at};
+use crate::link_places::{Site, has_input, names_of, outputs_of, site_at, workflow_at};
 use crate::link_types::add_disjoint;
 use crate::lost_sources::add_lost;
 use crate::near_names::{choice_words, nearest};
 use crate::step_circle::add_circle;
-use document_links::{Process, Step};
+use document_links::Process;
 use plain_data::Text;
 use run_facts::{find_in, input_type};
 use std::alloc::{AllocError, Global};
@@ -76,7 +76,11 @@ fn add_unlinked(
     let Some(kind) = input_type(alloc, &site.step.process, name.as_str())? else {
         return Ok(());
     };
-    let (id, has) = (site.id, entry_state(site.step, name));
+    let id = site.id;
+    let has = match find_in(site.step.inputs.as_slice(), name.as_str()) {
+        Some(_) => "has neither a source nor a default for it",
+        None => "has no entry for it",
+    };
     lines.push(format!(in alloc;
         "input `{name}` of the process of step `{id}` has to be {kind} and has no default, and `in` of the step {has}"
     )?)?;
@@ -87,13 +91,6 @@ fn add_unlinked(
         )?)?;
     }
     Ok(())
-}
-
-fn entry_state(step: &Step, name: &Text) -> &'static str {
-    match find_in(step.inputs.as_slice(), name.as_str()) {
-        Some(_) => "has neither a source nor a default for it",
-        None => "has no entry for it",
-    }
 }
 
 // Adds a line on an entry of the step that its process has no input for, and that may be meant for this one.
@@ -115,13 +112,4 @@ fn add_misnamed(
         )?)?;
     }
     Ok(())
-}
-
-fn has_input(process: &Process, name: &Text) -> bool {
-    match process {
-        Process::Tool(tool) => find_in(tool.inputs.as_slice(), name.as_str()).is_some(),
-        Process::Workflow(workflow) => {
-            find_in(workflow.inputs.as_slice(), name.as_str()).is_some()
-        }
-    }
 }

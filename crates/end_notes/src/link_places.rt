@@ -90,3 +90,12 @@ pub(crate) fn outputs_of(alloc: Global, process: &Process) -> Result<Vec<&str>, 
         Process::Workflow(workflow) => names_of(alloc, workflow.outputs.as_slice()),
     }
 }
+
+pub(crate) fn has_input(process: &Process, name: &Text) -> bool {
+    match process {
+        Process::Tool(tool) => find_in(tool.inputs.as_slice(), name.as_str()).is_some(),
+        Process::Workflow(workflow) => {
+            find_in(workflow.inputs.as_slice(), name.as_str()).is_some()
+        }
+    }
+}

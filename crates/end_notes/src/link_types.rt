@@ -135,8 +135,13 @@ fn step_words(alloc: Global, step: &Step, name: &str) -> Result<Option<String>, 
     let Some(kind) = output_type(alloc, &step.process, name)? else {
         return Ok(None);
     };
+    let lists = match step.method {
+        Some(Method::NestedCrossproduct) => step.scatter.len(),
+        _ if step.scatter.is_empty() => 0,
+        _ => 1,
+    };
     let mut words = String::new(alloc);
-    for _ in 0..arrays_of(step) {
+    for _ in 0..lists {
         words.push_str("a list of ")?;
     }
     words.push_str(kind.as_str())?;
@@ -144,15 +149,6 @@ fn step_words(alloc: Global, step: &Step, name: &str) -> Result<Option<String>, 
         words.push_str(" or null")?;
     }
     Ok(Some(words))
-}
-
-// In how many lists the outputs of a step are.
-fn arrays_of(step: &Step) -> usize {
-    match step.method {
-        Some(Method::NestedCrossproduct) => step.scatter.len(),
-        _ if step.scatter.is_empty() => 0,
-        _ => 1,
-    }
 }
 
 fn output_type(alloc: Global, process: &Process, name: &str) -> Result<Option<String>, AllocError> {

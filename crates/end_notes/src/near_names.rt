@@ -151,9 +151,14 @@ pub fn nearest<'a>(
     if name.len() > MOST_BYTES {
         return Ok(found);
     }
-    let mut best = allowed_for(name);
+    // one more than the edits that a name may need: of a short one each letter counts
+    let mut best = if name.len() > 3 { MOST_EDITS + 1 } else { 2 };
     for other in names {
-        let edits = edits_between(alloc, name, other)?;
+        let edits = if other.len() > MOST_BYTES {
+            MOST_BYTES
+        } else {
+            levenshtein(alloc, name, other)?
+        };
         if edits < best {
             best = edits;
             found = Some(*other);
@@ -162,25 +167,14 @@ pub fn nearest<'a>(
     Ok(found)
 }
 
-fn edits_between(alloc: Global, name: &str, other: &str) -> Result<usize, AllocError> {
-    if other.len() > MOST_BYTES {
-        return Ok(MOST_BYTES);
-    }
-    levenshtein(alloc, name, other)
-}
-
-// One more than the edits that a name may need: of a short one each letter counts.
-fn allowed_for(name: &str) -> usize {
-    if name.len() > 3 { MOST_EDITS + 1 } else { 2 }
-}
-
 // ---- objects
 
 // The fields of the object at a place whose steps are given, the last one first; none if it is not known.
 fn fields_at(document: &Value, object: &[Way]) -> &'static str {
     match object {
-        [] => fields_of_root(document),
-        [way, Way::Under(above), ..] if is_asking(above.as_str()) => {
+        [] if document.get("$graph").is_some() => PACKED,
+        [] => process_fields(Some(document)),
+        [way, Way::Under(above), ..] if matches!(above.as_str(), "requirements" | "hints") => {
             requirement_fields(document, way, object)
         }
         [way, Way::Under(above), rest @ ..] => match entry_fields(document, above.as_str(), rest) {
@@ -188,13 +182,6 @@ fn fields_at(document: &Value, object: &[Way]) -> &'static str {
             fields => fields,
         },
         [way, ..] => fields_within(document, way, object),
-    }
-}
-
-fn fields_of_root(document: &Value) -> &'static str {
-    match document.get("$graph") {
-        Some(_) => PACKED,
-        None => process_fields(Some(document)),
     }
 }
 
@@ -225,10 +212,6 @@ fn entry_fields(document: &Value, above: &str, rest: &[Way]) -> &'static str {
         "secondaryFiles" => SECONDARY_FILE,
         _ => "",
     }
-}
-
-fn is_asking(name: &str) -> bool {
-    name == "requirements" || name == "hints"
 }
 
 // A requirement has its class in it, or is under it.

@@ -177,7 +177,10 @@ fn words_on(
         ("inputs", [Segment::Key(name), rest @ ..]) => {
             match input_named(scope, name.as_str()) {
                 Some(known) => lacking(alloc, scope, name.as_str(), known, rest, reach),
-                None => no_input(alloc, scope, name),
+                None => {
+                    let names = names_of(alloc, scope)?;
+                    format!(in alloc; "there is no input `{name}`; {names}")
+                }
             }
         }
         ("inputs", _) => lacking(alloc, scope, "inputs", Known::Nothing, segments, reach),
@@ -188,11 +191,6 @@ fn words_on(
         }
         (symbol, _) => format!(in alloc; "`{symbol}` is not known"),
     }
-}
-
-fn no_input(alloc: Global, scope: &Scope<'_>, name: &Text) -> Result<String, AllocError> {
-    let names = names_of(alloc, scope)?;
-    format!(in alloc; "there is no input `{name}`; {names}")
 }
 
 // The first names of inputs.

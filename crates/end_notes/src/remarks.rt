@@ -1,9 +1,9 @@
 //! What a document asks for that is not done, and what an input object has that is not read.
 
-use document_links::Process;
+use crate::link_places::has_input;
 use plain_data::Text;
 use process_machine::World;
-use run_facts::{find_in, repeated_keys};
+use run_facts::repeated_keys;
 use run_given::{Given, bytes_of_file, path_at};
 use serde_json::{Map, Value};
 use std::alloc::{AllocError, Global};
@@ -89,19 +89,14 @@ fn findings_in<R: World>(
         look_into(rt, at, &mut found)?;
     }
     if let Some(file) = inputs {
-        look_for_repeats(rt, file, &mut found)?;
+        if let Ok(bytes) = bytes_of_file(rt, file) {
+            note_repeats(rt.alloc(), file, bytes.as_slice(), &mut found)?;
+        }
     }
     Ok(found)
 }
 
 // ---- keys that are twice in one object, of which the last one counts
-
-fn look_for_repeats<R: World>(rt: &R, file: &str, found: &mut Findings) -> Result<(), AllocError> {
-    match bytes_of_file(rt, file) {
-        Ok(bytes) => note_repeats(rt.alloc(), file, bytes.as_slice(), found),
-        Err(_) => Ok(()),
-    }
-}
 
 fn note_repeats(
     alloc: Global,
@@ -138,7 +133,7 @@ fn note_repeat(
 fn add_names(alloc: Global, given: &Given, lines: &mut Vec<String>) -> Result<(), AllocError> {
     let mut count: usize = 0;
     for (name, _) in given.inputs.as_slice() {
-        if !is_input(&given.process, name) && count < MOST_NAMES {
+        if !has_input(&given.process, name) && count < MOST_NAMES {
             lines.push(format!(in alloc;
                 "`{name}` of the input object is no input of the process"
             )?)?;
@@ -146,15 +141,6 @@ fn add_names(alloc: Global, given: &Given, lines: &mut Vec<String>) -> Result<()
         }
     }
     Ok(())
-}
-
-fn is_input(process: &Process, name: &Text) -> bool {
-    match process {
-        Process::Tool(tool) => find_in(tool.inputs.as_slice(), name.as_str()).is_some(),
-        Process::Workflow(workflow) => {
-            find_in(workflow.inputs.as_slice(), name.as_str()).is_some()
-        }
-    }
 }
 
 // ---- documents

@@ -17,20 +17,15 @@ pub(crate) fn add_circle(
     match workflow {
         Some(workflow) if workflow.steps.len() <= STEPS_LOOKED_AT => {
             let steps = workflow.steps.as_slice();
-            let open = open_steps(alloc, steps)?;
+            // in the end each of these waits for another one of them
+            let mut open = names_of(alloc, steps)?;
+            for _ in steps {
+                open = waiting_steps(alloc, steps, open.as_slice())?;
+            }
             add_way(alloc, steps, open.as_slice(), lines)
         }
         _ => Ok(()),
     }
-}
-
-// The steps of which each waits for another one of them.
-fn open_steps<'a>(alloc: Global, steps: &'a [(Text, Step)]) -> Result<Vec<&'a str>, AllocError> {
-    let mut open = names_of(alloc, steps)?;
-    for _ in steps {
-        open = waiting_steps(alloc, steps, open.as_slice())?;
-    }
-    Ok(open)
 }
 
 // Those of these steps that wait for one of them.

@@ -123,18 +123,15 @@ fn known_of(input: &ToolInput) -> Known<'_> {
 /// The texts that make the command of a tool.
 pub(crate) fn command_texts(alloc: Global, tool: &Tool) -> Result<Vec<Spoken<'_>>, AllocError> {
     let mut texts = Vec::new(alloc);
-    add_arguments(tool, &mut texts)?;
+    for argument in tool.arguments.as_slice() {
+        add_text(argument.value_from.as_ref(), Known::Null, &mut texts)?;
+    }
     add_bindings(tool, &mut texts)?;
     add_variables(tool, &mut texts)?;
-    add_streams(tool, &mut texts)?;
+    add_text(tool.streams.stdin.as_ref(), Known::Null, &mut texts)?;
+    add_text(tool.streams.stdout.as_ref(), Known::Null, &mut texts)?;
+    add_text(tool.streams.stderr.as_ref(), Known::Null, &mut texts)?;
     Ok(texts)
-}
-
-fn add_arguments<'a>(tool: &'a Tool, texts: &mut Vec<Spoken<'a>>) -> Result<(), AllocError> {
-    for argument in tool.arguments.as_slice() {
-        add_text(argument.value_from.as_ref(), Known::Null, texts)?;
-    }
-    Ok(())
 }
 
 fn add_bindings<'a>(tool: &'a Tool, texts: &mut Vec<Spoken<'a>>) -> Result<(), AllocError> {
@@ -154,12 +151,6 @@ fn add_variables<'a>(tool: &'a Tool, texts: &mut Vec<Spoken<'a>>) -> Result<(), 
         add_text(Some(&variable.value), Known::Null, texts)?;
     }
     Ok(())
-}
-
-fn add_streams<'a>(tool: &'a Tool, texts: &mut Vec<Spoken<'a>>) -> Result<(), AllocError> {
-    add_text(tool.streams.stdin.as_ref(), Known::Null, texts)?;
-    add_text(tool.streams.stdout.as_ref(), Known::Null, texts)?;
-    add_text(tool.streams.stderr.as_ref(), Known::Null, texts)
 }
 
 /// The texts `valueFrom` and `when` of a step.

@@ -297,9 +297,10 @@ fn cause_words(
     notes: &[String],
 ) -> Result<String, AllocError> {
     match cause {
-        Cause::Equation(NoValue::Kind(input)) if place.as_str() == ROOT => {
-            misfit_words(alloc, input, notes.first())
-        }
+        Cause::Equation(NoValue::Kind(input)) if place.as_str() == ROOT => match notes.first() {
+            Some(line) => String::from_str(alloc, line.as_str()),
+            None => format!(in alloc; "the value of input `{input}` does not fit its type"),
+        },
         Cause::Equation(cause) => equation_words(alloc, place, cause),
         Cause::Build(BuildFault::Reference(fault)) => {
             let more = known_names(*fault);
@@ -312,13 +313,6 @@ fn cause_words(
         Cause::Exit(None) => format!(in alloc; "the command of {place} ended by a signal"),
         Cause::Collect(CollectCause::Input(fault)) => format!(in alloc; "{fault}"),
         Cause::Collect(CollectCause::Output(fault)) => format!(in alloc; "no outputs: {fault}"),
-    }
-}
-
-fn misfit_words(alloc: Global, input: &Text, note: Option<&String>) -> Result<String, AllocError> {
-    match note {
-        Some(line) => String::from_str(alloc, line.as_str()),
-        None => format!(in alloc; "the value of input `{input}` does not fit its type"),
     }
 }
 
@@ -352,7 +346,11 @@ fn equation_words(alloc: Global, place: &Text, cause: &NoValue) -> Result<String
         }
         NoValue::Secondary(input) => {
             let input = input_at(alloc, place, input)?;
-            let more = hand_on_words(place);
+            let more = if place.as_str() == ROOT {
+                ""
+            } else {
+                "; a workflow hands on those that its own input asks for"
+            };
             format!(in alloc; "a file of {input} lacks a secondary file{more}")
         }
         NoValue::Link(fault) => format!(in alloc; "{fault}"),
@@ -369,15 +367,6 @@ fn input_at(alloc: Global, place: &Text, input: &Text) -> Result<String, AllocEr
         return format!(in alloc; "input `{input}`");
     }
     format!(in alloc; "input `{input}` of {place}")
-}
-
-// How the files of a step come to have others beside them.
-fn hand_on_words(place: &Text) -> &'static str {
-    if place.as_str() == ROOT {
-        ""
-    } else {
-        "; a workflow hands on those that its own input asks for"
-    }
 }
 
 fn mismatch_words(alloc: Global, place: &Text) -> Result<String, AllocError> {
@@ -428,7 +417,8 @@ fn fault_words(alloc: Global, fault: &Fault) -> Result<String, AllocError> {
 
 // Why the work folder could not be made, and what would do.
 fn work_words(alloc: Global, path: &Text, why: WorkTrouble) -> Result<String, AllocError> {
-    let remover = remover_of(alloc, path)?;
+    let mut remover = String::from_str(alloc, "rm -r ")?;
+    add_word(&mut remover, path.as_str())?;
     match why {
         WorkTrouble::There => {
             format!(in alloc;
@@ -474,13 +464,6 @@ fn making_words(why: WorkTrouble) -> &'static str {
         WorkTrouble::Full => "there is no room",
         _ => "the system refuses it",
     }
-}
-
-// The command that removes a folder, as a shell takes it.
-fn remover_of(alloc: Global, path: &Text) -> Result<String, AllocError> {
-    let mut command = String::from_str(alloc, "rm -r ")?;
-    add_word(&mut command, path.as_str())?;
-    Ok(command)
 }
 
 /// What hinders the use of a folder or a file for results.

@@ -86,13 +86,7 @@ fn note(
 fn known_by(row: &Option<Row>) -> Known {
     match row {
         None => Known::NotRecorded,
-        Some(row) => known_of_row(row.archived),
+        Some(row) if row.archived => Known::Archived,
+        Some(_) => Known::NotArchived,
     }
-}
-
-fn known_of_row(is_archived: bool) -> Known {
-    if is_archived {
-        return Known::Archived;
-    }
-    Known::NotArchived
 }

@@ -18,7 +18,10 @@ pub(crate) fn clear_job<R: AllocGlobal + Files + Clone + Drop>(
     found: &[Found],
 ) -> Result<(), Trouble> {
     match job_of(folder, work) {
-        Some(job) if !has_link(rt, folder, found)? => remove_parts(rt, job),
+        Some(job) if !has_link(rt, folder, found)? => {
+            remove_part(rt, job, "in")?;
+            remove_part(rt, job, "tmp")
+        }
         _ => Ok(()),
     }
 }
@@ -27,11 +30,8 @@ pub(crate) fn clear_job<R: AllocGlobal + Files + Clone + Drop>(
 fn job_of<'a>(folder: &'a str, work: &str) -> Option<&'a str> {
     let job = folder.strip_suffix("/out")?;
     let number = job.strip_prefix(work)?.strip_prefix("/j")?;
-    if is_number(number) { Some(job) } else { None }
-}
-
-fn is_number(text: &str) -> bool {
-    !text.is_empty() && text.bytes().all(|byte| byte.is_ascii_digit())
+    let is_number = !number.is_empty() && number.bytes().all(|byte| byte.is_ascii_digit());
+    if is_number { Some(job) } else { None }
 }
 
 // Whether the folder, or anything that was listed of it, is a link.
@@ -44,29 +44,16 @@ fn has_link<R: AllocGlobal + Files>(
         return Ok(true);
     }
     for entry in found {
-        if is_link_below(rt, folder, entry.name.as_str())? {
+        let path = joined(rt.alloc(), folder, entry.name.as_str())?;
+        if is_link(rt, path.as_str())? {
             return Ok(true);
         }
     }
     Ok(false)
 }
 
-fn is_link_below<R: AllocGlobal + Files>(
-    rt: &R,
-    folder: &str,
-    name: &str,
-) -> Result<bool, Trouble> {
-    let path = joined(rt.alloc(), folder, name)?;
-    is_link(rt, path.as_str())
-}
-
 fn is_link<R: Files>(rt: &R, path: &str) -> Result<bool, Trouble> {
     Ok(or_trouble(fs::symlink_metadata(rt, path))?.is_symlink())
-}
-
-fn remove_parts<R: AllocGlobal + Files + Clone + Drop>(rt: &R, job: &str) -> Result<(), Trouble> {
-    remove_part(rt, job, "in")?;
-    remove_part(rt, job, "tmp")
 }
 
 fn remove_part<R: AllocGlobal + Files + Clone + Drop>(

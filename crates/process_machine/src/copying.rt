@@ -17,8 +17,8 @@ use crate::world::World;
 use plain_data::Text;
 use staging::Found;
 use std::alloc::{AllocError, Global};
-use std::fs::{File, Metadata, OpenFile};
-use std::io::{Read, Take, Write};
+use std::fs::{File, Metadata};
+use std::io::Read;
 use std::{fs, mem};
 
 // A folder that is filled.
@@ -293,18 +293,7 @@ fn is_kind(found: &Metadata, is_dir: bool) -> bool {
 // Reads one byte more than there were at most.
 fn fill<R: World>(rt: &R, file: &Found, source: &str, writer: &mut R::File) -> Result<(), Trouble> {
     let mut reader = File::open(rt, source)?.take(file.size.saturating_add(1));
-    let filled = fill_from(rt.alloc(), file, &mut reader, writer);
-    mem::drop(reader);
-    filled
-}
-
-fn fill_from<F: Read + Write + OpenFile>(
-    alloc: Global,
-    file: &Found,
-    reader: &mut Take<F>,
-    writer: &mut F,
-) -> Result<(), Trouble> {
-    copy_as_found(alloc, file, reader, writer)?;
+    copy_as_found(rt.alloc(), file, &mut reader, writer)?;
     keep_attributes(reader.get_ref(), writer)
 }
 

@@ -190,26 +190,17 @@ fn measured_among<R: World>(
     Ok(None)
 }
 
+// The index for what is at a measured path, or below it.
 fn index_of_measured<R: World>(
     rt: &R,
     entry: &Entry,
     replaced: &BTreeMap<FileId, usize>,
 ) -> Result<Option<usize>, Trouble> {
-    match (&entry.request, &entry.answer) {
-        (HostRequest::Measure(path), HostAnswer::Measured(measure)) => {
-            index_in(rt, path.as_str(), measure, replaced)
-        }
-        _ => Ok(None),
-    }
-}
-
-// The index for what is at a measured path, or below it.
-fn index_in<R: World>(
-    rt: &R,
-    path: &str,
-    measure: &Measure,
-    replaced: &BTreeMap<FileId, usize>,
-) -> Result<Option<usize>, Trouble> {
+    let Entry { request, answer } = entry;
+    let (HostRequest::Measure(path), HostAnswer::Measured(measure)) = (request, answer) else {
+        return Ok(None);
+    };
+    let path = path.as_str();
     match (index_at(rt, path, replaced), measure) {
         (None, Measure::Folder(found)) => index_below(rt, path, found.as_slice(), replaced),
         (index, _) => Ok(index),
@@ -254,29 +245,25 @@ fn guarded_among<R: World>(
     written: &[Written],
 ) -> Option<usize> {
     for path in guarded {
-        if let Some(index) = index_on(rt, path.as_str(), replaced, written) {
-            return Some(index);
+        let path = path.as_str();
+        // What is at the path is known by its number, and what is not there by its name.
+        let index = match file_at(rt, path) {
+            Some(_) => index_at(rt, path, replaced),
+            None => index_making(rt, path, written),
+        };
+        if index.is_some() {
+            return index;
         }
     }
     None
 }
 
-// What is at the path is known by its number, and what is not there by its name.
-fn index_on<R: World>(
-    rt: &R,
-    path: &str,
-    replaced: &BTreeMap<FileId, usize>,
-    written: &[Written],
-) -> Option<usize> {
-    match file_at(rt, path) {
-        Some(_) => index_at(rt, path, replaced),
-        None => index_making(rt, path, written),
-    }
-}
-
 // The index of a move that would make something at a path.
 fn index_making<R: World>(rt: &R, path: &str, written: &[Written]) -> Option<usize> {
-    let (folder, name) = parted(path);
+    let (folder, name) = match path.rsplit_once('/') {
+        Some((folder, name)) => (or_root(folder), name),
+        None => (".", path),
+    };
     let id = file_behind(rt, folder)?;
     for it in written {
         if makes(rt, it.to.as_str(), id, name) {
@@ -298,14 +285,6 @@ fn makes<R: World>(rt: &R, target: &str, id: FileId, name: &str) -> bool {
     false
 }
 
-// The folder of a path, and its name there.
-fn parted(path: &str) -> (&str, &str) {
-    match path.rsplit_once('/') {
-        Some((folder, name)) => (or_root(folder), name),
-        None => (".", path),
-    }
-}
-
 // In front of what is in the root folder nothing stands.
 fn or_root(folder: &str) -> &str {
     if folder.is_empty() { "/" } else { folder }
@@ -313,14 +292,10 @@ fn or_root(folder: &str) -> &str {
 
 // Whether what follows a folder in a path begins with this name.
 fn goes_on_by(rest: &str, name: &str) -> bool {
-    match rest.strip_prefix('/') {
-        Some(rest) => begins_with(rest, name),
-        None => false,
-    }
-}
-
-fn begins_with(path: &str, name: &str) -> bool {
-    match path.strip_prefix(name) {
+    let Some(rest) = rest.strip_prefix('/') else {
+        return false;
+    };
+    match rest.strip_prefix(name) {
         Some(rest) => rest.is_empty() || rest.starts_with('/'),
         None => false,
     }

@@ -64,14 +64,8 @@ pub(crate) fn fetch_all<R: World>(
 // The folder `out` in the folder of this number, both made.
 fn made_folder<R: World>(rt: &R, work: &str, number: u64) -> Result<String, Trouble> {
     let folder = fetch_folder(rt.alloc(), work, number)?;
-    let out = made_in(rt, folder.as_str());
-    mem::drop(folder);
-    out
-}
-
-fn made_in<R: World>(rt: &R, folder: &str) -> Result<String, Trouble> {
-    make_private(rt, folder)?;
-    let out = joined(rt.alloc(), folder, "out")?;
+    make_private(rt, folder.as_str())?;
+    let out = joined(rt.alloc(), folder.as_str(), "out")?;
     fs::create_dir(rt, out.as_str())?;
     Ok(out)
 }
@@ -185,15 +179,11 @@ fn kind_along<R: World>(rt: &R, path: &mut String, name: &str) -> Result<Kind, T
         if kind != Kind::Folder {
             return Ok(Kind::Absent);
         }
-        kind = kind_further(rt, path, part)?;
+        path.push('/')?;
+        path.push_str(part)?;
+        kind = kind_at(rt, path.as_str())?;
     }
     Ok(kind)
-}
-
-fn kind_further<R: World>(rt: &R, path: &mut String, part: &str) -> Result<Kind, Trouble> {
-    path.push('/')?;
-    path.push_str(part)?;
-    kind_at(rt, path.as_str())
 }
 
 fn kind_at<R: World>(rt: &R, path: &str) -> Result<Kind, Trouble> {

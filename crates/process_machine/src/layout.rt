@@ -10,8 +10,8 @@ use crate::trouble::{Trouble, or_trouble};
 use crate::world::World;
 use staging::{Move, StagePlan};
 use std::alloc::{AllocError, Global};
+use std::fs;
 use std::rt::Files;
-use std::{fs, io};
 
 /// Makes the folder of a job with `out` and `tmp` in it, and copies the files and folders of its plan into `in`, which is made for them.
 ///
@@ -24,7 +24,7 @@ pub(crate) fn lay_out<R: World>(
     number: u64,
     missed: &mut Missed,
 ) -> Result<(), Trouble> {
-    let folder = job_folder(rt.alloc(), work, number)?;
+    let folder = format!(in rt.alloc(); "{work}/j{number}")?;
     lay_out_in(rt, past, folder.as_str(), plan, missed)
 }
 
@@ -36,23 +36,15 @@ fn lay_out_in<R: World>(
     missed: &mut Missed,
 ) -> Result<(), Trouble> {
     or_trouble(make_private(rt, folder))?;
-    make_parts(rt, folder)?;
+    make_part(rt, folder, "out")?;
+    make_part(rt, folder, "tmp")?;
     let inputs = joined(rt.alloc(), folder, "in")?;
     copy_all(rt, past, plan.moves.as_slice(), inputs.as_str(), missed)
-}
-
-fn make_parts<R: AllocGlobal + Files>(rt: &R, folder: &str) -> Result<(), Trouble> {
-    make_part(rt, folder, "out")?;
-    make_part(rt, folder, "tmp")
 }
 
 fn make_part<R: AllocGlobal + Files>(rt: &R, folder: &str, name: &str) -> Result<(), Trouble> {
     let part = joined(rt.alloc(), folder, name)?;
     or_trouble(fs::create_dir(rt, part.as_str()))
-}
-
-fn job_folder(alloc: Global, work: &str, number: u64) -> Result<String, AllocError> {
-    format!(in alloc; "{work}/j{number}")
 }
 
 pub(crate) fn joined(alloc: Global, folder: &str, name: &str) -> Result<String, AllocError> {
@@ -122,31 +114,22 @@ pub(crate) fn make_along<R: AllocGlobal + Files>(
 ) -> Result<(), Trouble> {
     let mut path = String::from_str(rt.alloc(), folder)?;
     for part in way.split('/') {
-        make_next(rt, &mut path, part)?;
+        path.push('/')?;
+        path.push_str(part)?;
+        make_own(rt, path.as_str())?;
     }
     Ok(())
-}
-
-// Makes a folder of this name in the one at a path, which goes on to it.
-fn make_next<R: Files>(rt: &R, path: &mut String, name: &str) -> Result<(), Trouble> {
-    path.push('/')?;
-    path.push_str(name)?;
-    make_own(rt, path.as_str())
 }
 
 /// Makes a folder where it is absent.
 pub(crate) fn make_own<R: Files>(rt: &R, path: &str) -> Result<(), Trouble> {
     match fs::create_dir(rt, path) {
         Ok(()) => Ok(()),
-        Err(error) => found_own(rt, path, &error),
-    }
-}
-
-// Where a folder can't be made, one that is there is as good; a link to one is not.
-fn found_own<R: Files>(rt: &R, path: &str, error: &io::Error) -> Result<(), Trouble> {
-    match fs::symlink_metadata(rt, path) {
-        Ok(metadata) if metadata.is_dir() => Ok(()),
-        _ => Err(Trouble::of(error)),
+        // Where a folder can't be made, one that is there is as good; a link to one is not.
+        Err(error) => match fs::symlink_metadata(rt, path) {
+            Ok(metadata) if metadata.is_dir() => Ok(()),
+            _ => Err(Trouble::of(&error)),
+        },
     }
 }
 

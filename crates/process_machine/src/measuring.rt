@@ -21,7 +21,14 @@ pub(crate) fn measure_of<R: World>(
 ) -> Result<Measure, Trouble> {
     match fs::metadata(rt, path) {
         Ok(metadata) => measure_as(rt, path, &metadata, sums),
-        Err(error) => without_metadata(rt, path, &error),
+        Err(error) => {
+            // Where nothing is met at a path, there is nothing, or a link that leads nowhere.
+            if is_absence(&error) && !is_link(rt, path)? {
+                Ok(Measure::Absent)
+            } else {
+                Err(trouble_of(&error))
+            }
+        }
     }
 }
 
@@ -38,15 +45,6 @@ fn measure_as<R: World>(
         Ok(Measure::File { size, sum })
     } else {
         Err(Trouble::Failed)
-    }
-}
-
-// Where nothing is met at a path, there is nothing, or a link that leads nowhere.
-fn without_metadata<R: World>(rt: &R, path: &str, error: &io::Error) -> Result<Measure, Trouble> {
-    if is_absence(error) && !is_link(rt, path)? {
-        Ok(Measure::Absent)
-    } else {
-        Err(trouble_of(error))
     }
 }
 

@@ -77,7 +77,8 @@ fn shown(alloc: Global, bytes: &[u8]) -> Result<String, AllocError> {
     let first = lines.len().saturating_sub(MOST_LINES);
     let mut text = String::new(alloc);
     for line in &lines[first..] {
-        add_line(alloc, &mut text, line)?;
+        text.push_str("\n  ")?;
+        add_shown(alloc, &mut text, line)?;
     }
     Ok(text)
 }
@@ -100,11 +101,6 @@ fn lines_of(alloc: Global, bytes: &[u8]) -> Result<Vec<&[u8]>, AllocError> {
 
 fn is_line_end(byte: &u8) -> bool {
     *byte == b'\n'
-}
-
-fn add_line(alloc: Global, text: &mut String, line: &[u8]) -> Result<(), AllocError> {
-    text.push_str("\n  ")?;
-    add_shown(alloc, text, line)
 }
 
 /// A line as it is shown: a control character as `\t` or by its code, as `\x1b`, and so each byte that is no UTF-8.

@@ -69,13 +69,9 @@ impl<'a> Past<'a> {
     /// What was told last of a path, or of the nearest folder above it of which anything was told.
     pub(crate) fn known_at(&self, path: &'a str) -> Option<Known<'a>> {
         let path = trimmed(path);
-        match self.places.index_at(path) {
-            Some(index) => known_by(self.answer(index)?),
-            None => self.known_above(path),
+        if let Some(index) = self.places.index_at(path) {
+            return known_by(self.answer(index)?);
         }
-    }
-
-    fn known_above(&self, path: &'a str) -> Option<Known<'a>> {
         let (index, name) = self.places.index_above(path)?;
         match known_by(self.answer(index)?)? {
             Known::Folder(found, _) => Some(known_in(found, name)),
@@ -118,18 +114,15 @@ fn known_by(answer: &HostAnswer) -> Option<Known<'_>> {
 
 // What has this name in a listing.
 fn known_in<'a>(found: &'a [Found], name: &'a str) -> Known<'a> {
-    match entry_of(found, name) {
+    // A listing is by name; what was fetched is in the order in which a row has it.
+    let entry = match found.binary_search_by(|entry| entry.name.as_str().cmp(name)) {
+        Ok(index) => found.get(index),
+        Err(_) => found.iter().find(|entry| entry.name.as_str() == name),
+    };
+    match entry {
         Some(entry) if entry.is_dir => Known::Folder(found, name),
         Some(entry) => Known::File(entry.size, &entry.sum),
         None => Known::Nothing,
-    }
-}
-
-// A listing is by name; what was fetched is in the order in which a row has it.
-fn entry_of<'a>(found: &'a [Found], name: &str) -> Option<&'a Found> {
-    match found.binary_search_by(|entry| entry.name.as_str().cmp(name)) {
-        Ok(index) => found.get(index),
-        Err(_) => found.iter().find(|entry| entry.name.as_str() == name),
     }
 }
 

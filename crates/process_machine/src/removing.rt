@@ -118,21 +118,11 @@ fn empty_into<R: AllocGlobal + Files + Clone + Drop>(
         if number >= count {
             return Ok(());
         }
-        count = remove_lifted(rt, lifted, number, count)?;
+        let path = format!(in rt.alloc(); "{lifted}/{number}")?;
+        count = lift_from(rt, path.as_str(), lifted, count)?;
+        let _removed = fs::remove_dir(rt, path.as_str());
     }
     Ok(())
-}
-
-fn remove_lifted<R: AllocGlobal + Files + Clone + Drop>(
-    rt: &R,
-    lifted: &str,
-    number: u64,
-    count: u64,
-) -> Result<u64, Trouble> {
-    let path = format!(in rt.alloc(); "{lifted}/{number}")?;
-    let count = lift_from(rt, path.as_str(), lifted, count)?;
-    let _removed = fs::remove_dir(rt, path.as_str());
-    Ok(count)
 }
 
 // Removes what is in a folder, and moves the folders in it up. Tells how many were moved up so far. What can't be read stays.

@@ -336,18 +336,11 @@ where
     R::File: Into<Stdio>,
 {
     match messages_file(rt.alloc(), launch)? {
-        Some(path) => Ok(file_or_nowhere(rt, &path)),
+        Some(path) => match File::create(rt, path.as_str()) {
+            Ok(file) => Ok(file.into()),
+            Err(_) => Ok(Stdio::null()),
+        },
         None => Ok(Stdio::null()),
-    }
-}
-
-fn file_or_nowhere<R: World>(rt: &R, path: &Text) -> Stdio
-where
-    R::File: Into<Stdio>,
-{
-    match File::create(rt, path.as_str()) {
-        Ok(file) => file.into(),
-        Err(_) => Stdio::null(),
     }
 }
 

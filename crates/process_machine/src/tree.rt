@@ -66,23 +66,11 @@ fn add_all<R: AllocGlobal + Files + Clone + Drop>(
         if index >= tree.len() {
             return Ok(());
         }
-        add_entries_of(rt, folder, index, others, tree)?;
+        if let Some(name) = subfolder_at(rt.alloc(), tree, index)? {
+            add_entries(rt, folder, name.as_str(), others, tree)?;
+        }
     }
     Ok(())
-}
-
-// Adds the entries of what is at an index, where it is a folder.
-fn add_entries_of<R: AllocGlobal + Files + Clone + Drop>(
-    rt: &R,
-    folder: &str,
-    index: usize,
-    others: Others,
-    tree: &mut Vec<Below>,
-) -> Result<(), NoListing> {
-    match subfolder_at(rt.alloc(), tree, index)? {
-        Some(name) => add_entries(rt, folder, name.as_str(), others, tree),
-        None => Ok(()),
-    }
 }
 
 // The name of the folder at an index; none where there is a file, or nothing.
@@ -101,19 +89,16 @@ fn add_entries<R: AllocGlobal + Files + Clone + Drop>(
     others: Others,
     tree: &mut Vec<Below>,
 ) -> Result<(), NoListing> {
-    let path = path_below(rt.alloc(), folder, name)?;
+    let path = if name.is_empty() {
+        String::from_str(rt.alloc(), folder)?
+    } else {
+        joined(rt.alloc(), folder, name)?
+    };
     let branch = Branch {
         path: path.as_str(),
         name,
     };
     add_entries_at(rt, branch, others, tree)
-}
-
-fn path_below(alloc: Global, folder: &str, name: &str) -> Result<String, AllocError> {
-    if name.is_empty() {
-        return String::from_str(alloc, folder);
-    }
-    joined(alloc, folder, name)
 }
 
 fn add_entries_at<R: AllocGlobal + Files + Clone + Drop>(
@@ -123,7 +108,10 @@ fn add_entries_at<R: AllocGlobal + Files + Clone + Drop>(
     tree: &mut Vec<Below>,
 ) -> Result<(), NoListing> {
     for entry in opened(rt, branch.path)? {
-        add_next(rt, branch, entry, others, tree)?;
+        match entry {
+            Ok(entry) => add_entry(rt, branch.name, &entry, others, tree)?,
+            Err(error) => return Err(without_entry(rt.alloc(), branch.path, &error)),
+        }
     }
     Ok(())
 }
@@ -137,19 +125,6 @@ fn opened<R: AllocGlobal + Files + Clone + Drop>(
     match fs::read_dir(rt, folder) {
         Ok(entries) => Ok(entries),
         Err(error) => Err(NoListing::of(rt.alloc(), folder, &error)),
-    }
-}
-
-fn add_next<R: AllocGlobal + Files + Drop>(
-    rt: &R,
-    branch: Branch<'_>,
-    entry: io::Result<DirEntry<R>>,
-    others: Others,
-    tree: &mut Vec<Below>,
-) -> Result<(), NoListing> {
-    match entry {
-        Ok(entry) => add_entry(rt, branch.name, &entry, others, tree),
-        Err(error) => Err(without_entry(rt.alloc(), branch.path, &error)),
     }
 }
 

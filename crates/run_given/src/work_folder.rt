@@ -32,12 +32,18 @@ pub enum NoWork {
 /// What is opened is to be held until the folder is removed: that takes a file of the process's own to be open, and there may be room for no
 /// other.
 pub fn make_work<R: World>(rt: &R, places: &Places) -> Result<R::File, NoWork> {
-    if let Err(error) = own_folder(rt, &places.work) {
+    let mut folder = DirBuilder::new();
+    folder.mode(OWNER_ALONE);
+    if let Err(error) = folder.create(rt, places.work.as_str()) {
         return Err(NoWork::Refused(error.kind()));
     }
     let made = opened_alone(rt, places);
     match &made {
-        Ok(_) => mark_made(rt, &places.work),
+        Ok(_) => {
+            if let Some(mark) = own_mark(rt) {
+                put_mark(rt, &places.work, mark.as_str());
+            }
+        }
         Err(_) => {
             let _removed = fs::remove_dir(rt, places.work.as_str());
         }
@@ -53,12 +59,6 @@ fn opened_alone<R: World>(rt: &R, places: &Places) -> Result<R::File, NoWork> {
         Ok(opened) => Ok(opened),
         Err(error) => Err(NoWork::Refused(error.kind())),
     }
-}
-
-fn own_folder<R: World>(rt: &R, work: &Text) -> io::Result<()> {
-    let mut folder = DirBuilder::new();
-    folder.mode(OWNER_ALONE);
-    folder.create(rt, work.as_str())
 }
 
 // Nothing was in the work folder before it was made, so what would be in it is not there yet.
@@ -85,25 +85,11 @@ fn leads_into<R: World>(rt: &R, path: &Text, folder: Path<'_>) -> bool {
     false
 }
 
-// Marks a work folder as made by this process, if that can be done.
-fn mark_made<R: World>(rt: &R, work: &Text) {
-    if let Some(mark) = own_mark(rt) {
-        put_mark(rt, work, mark.as_str());
-    }
-}
-
-// Marks a work folder as left on purpose, if that can be done.
-fn mark_kept<R: World>(rt: &R, work: &Text) {
-    put_mark(rt, work, KEPT);
-}
-
+// Marks a work folder, if that can be done.
 fn put_mark<R: World>(rt: &R, work: &Text, mark: &str) {
-    let _put = written(rt, work, mark);
-}
-
-fn written<R: World>(rt: &R, work: &Text, mark: &str) -> io::Result<()> {
-    let path = mark_path(rt, work)?;
-    fs::write(rt, path.as_str(), mark)
+    if let Ok(path) = mark_path(rt, work) {
+        let _put = fs::write(rt, path.as_str(), mark);
+    }
 }
 
 fn mark_path<R: World>(rt: &R, work: &Text) -> Result<String, AllocError> {
@@ -113,7 +99,7 @@ fn mark_path<R: World>(rt: &R, work: &Text) -> Result<String, AllocError> {
 /// Marks the work folder if it stays, and removes it if not. Where it can't be removed, that is noted.
 pub fn leave<R: World>(rt: &R, work: &Text, stays: bool, notes: &mut Vec<String>) {
     if stays {
-        mark_kept(rt, work);
+        put_mark(rt, work, KEPT);
     } else if let Err(error) = remove_folder(rt, work.as_str()) {
         if error.kind() != io::ErrorKind::NotFound {
             let _noted = note_unremoved(rt.alloc(), work, &error, notes);
@@ -161,15 +147,11 @@ fn work_trouble<R: World>(rt: &R, work: &Text, kind: io::ErrorKind) -> WorkTroub
 
 fn trouble_there<R: World>(rt: &R, work: &Text) -> WorkTrouble {
     match (mark_in(rt, work), own_mark(rt)) {
-        (Some(mark), Some(own)) => trouble_by(rt, mark.as_str(), own.as_str()),
+        (Some(mark), Some(own)) => match stat_for(rt, mark.as_str()) {
+            Some(stat) => trouble_of(mark.as_str(), own.as_str(), Some(stat.as_str())),
+            None => trouble_of(mark.as_str(), own.as_str(), None),
+        },
         _ => WorkTrouble::There,
-    }
-}
-
-fn trouble_by<R: World>(rt: &R, mark: &str, own: &str) -> WorkTrouble {
-    match stat_for(rt, mark) {
-        Some(stat) => trouble_of(mark, own, Some(stat.as_str())),
-        None => trouble_of(mark, own, None),
     }
 }
 

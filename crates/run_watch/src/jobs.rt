@@ -4,7 +4,6 @@ use crate::hearing::TakeNear;
 use crate::memory::Memory;
 use crate::nearby::Nearby;
 use crate::traces::{Holding, Traces};
-use command_line::Launch;
 use cwl_value::{JobPlace, copy_job};
 use end_words::{Ended, place_in};
 use job_rows::Row;
@@ -186,20 +185,18 @@ impl<'a, R: AllocGlobal + Clock, L: Listen + TakeNear> Jobs<'a, R, L> {
     fn note_question(&mut self, place: &JobPlace, request: &HostRequest) -> Result<(), AllocError> {
         self.settle()?;
         match request {
-            HostRequest::Start(launch) => self.note_launch(place, launch),
+            HostRequest::Start(launch) => {
+                let place = place_in(self.alloc, place)?;
+                let (reason, counts) = (self.reason(&place), self.counts());
+                self.listener.starts(&place, launch, reason, counts);
+                Ok(())
+            }
             HostRequest::Deliver(plan) => {
                 self.delivered = plan.moves.len() as u64;
                 Ok(())
             }
             _ => Ok(()),
         }
-    }
-
-    fn note_launch(&mut self, place: &JobPlace, launch: &Launch) -> Result<(), AllocError> {
-        let place = place_in(self.alloc, place)?;
-        let (reason, counts) = (self.reason(&place), self.counts());
-        self.listener.starts(&place, launch, reason, counts);
-        Ok(())
     }
 
     // Why a job is computed, in a run that could have loaded it.
@@ -300,7 +297,12 @@ impl<'a, R: AllocGlobal + Clock, L: Listen + TakeNear> Jobs<'a, R, L> {
                 self.traces.use_refusal = refusal.code();
                 self.traces.untouched.add(self.alloc, place)
             }
-            (RecordRequest::DropArchive(key), _) => self.note_loss(key),
+            (RecordRequest::DropArchive(key), _) => {
+                // what was fetched last is not what its row has
+                self.fetched = None;
+                self.altered.insert(key.copied(self.alloc)?, true)?;
+                self.traces.lose(self.alloc, key, Holding::Unkept)
+            }
             (RecordRequest::Put(row), _) => {
                 self.settle()?;
                 self.note_put(place, row, answer)
@@ -363,13 +365,6 @@ impl<'a, R: AllocGlobal + Clock, L: Listen + TakeNear> Jobs<'a, R, L> {
         let recalled = recalled_of(row);
         self.recalled.insert(place, InRecord { recalled, key })?;
         Ok(())
-    }
-
-    // What was fetched last is not what its row has.
-    fn note_loss(&mut self, key: &Text) -> Result<(), AllocError> {
-        self.fetched = None;
-        self.altered.insert(key.copied(self.alloc)?, true)?;
-        self.traces.lose(self.alloc, key, Holding::Unkept)
     }
 
     // Takes note that the run goes on with what was fetched last.

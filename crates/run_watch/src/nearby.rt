@@ -43,18 +43,14 @@ pub fn kept_in<R: AllocGlobal + Records>(rt: &R, file: &str, are_wanted: bool) -
         return KeptJobs::none(rt.alloc());
     }
     match rt.see_rows(file) {
-        Ok(listing) => jobs_or_none(rt.alloc(), &listing),
+        Ok(listing) => match all_jobs(rt.alloc(), &listing) {
+            Ok(kept) => kept,
+            Err(_) => KeptJobs::none(rt.alloc()),
+        },
         Err(ending) => {
             mem::drop(ending);
             KeptJobs::none(rt.alloc())
         }
-    }
-}
-
-fn jobs_or_none(alloc: Global, listing: &Listing) -> KeptJobs {
-    match all_jobs(alloc, listing) {
-        Ok(kept) => kept,
-        Err(_) => KeptJobs::none(alloc),
     }
 }
 

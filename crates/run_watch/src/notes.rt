@@ -9,7 +9,7 @@ use end_notes::{
     add_step, add_tool, add_uncopied, misfit_lines, missing_lines, secondary_lines, tool_of,
 };
 use end_words::{
-    Counted, Ended, Exit, Fault, Named, add_over_budget, add_tally, add_undiscarded, add_unput,
+    Counted, Exit, Fault, Named, add_over_budget, add_tally, add_undiscarded, add_unput,
     add_unstored, add_untouched, ended_with, failed_jobs, failed_too, more_words, other_failures,
     tally_of, unkept_for_room,
 };
@@ -179,29 +179,13 @@ fn add_call<R: World>(
 ) -> Result<(), AllocError> {
     add_place(rt.alloc(), traces.failed_at(fault), lines)?;
     match fault {
-        HostFault::Start => add_unstarted(rt, host, lines),
-        HostFault::Stage => add_unstaged(rt.alloc(), host, lines),
+        HostFault::Start => add_start(rt, host.log(), host.launcher(), host.unstarted(), lines),
+        HostFault::Stage => match host.undelivered() {
+            Some(missed) => add_uncopied(rt.alloc(), missed, lines),
+            None => Ok(()),
+        },
         HostFault::Scan => add_obstacle(rt.alloc(), host.unlisted(), lines),
         _ => Ok(()),
-    }
-}
-
-fn add_unstarted<R: World>(
-    rt: &R,
-    host: &Machine<R>,
-    lines: &mut Vec<String>,
-) -> Result<(), AllocError> {
-    add_start(rt, host.log(), host.launcher(), host.unstarted(), lines)
-}
-
-fn add_unstaged<R: World>(
-    alloc: Global,
-    host: &Machine<R>,
-    lines: &mut Vec<String>,
-) -> Result<(), AllocError> {
-    match host.undelivered() {
-        Some(missed) => add_uncopied(alloc, missed, lines),
-        None => Ok(()),
     }
 }
 
@@ -398,7 +382,8 @@ fn add_others<R: World>(
     let others = other_failures(rt.alloc(), failed, named_by(traces, exit))?;
     for ticket in others.iter().take(MOST_BLOCKS) {
         if let Some(ended) = ended_with(traces.ends.as_slice(), *ticket) {
-            add_other(rt, host, ended, lines)?;
+            lines.push(failed_too(rt.alloc(), &ended.place)?)?;
+            add_job(rt, host, Some(&ended.ticket), lines)?;
         }
     }
     let more = others.len().saturating_sub(MOST_BLOCKS) as u64;
@@ -406,16 +391,6 @@ fn add_others<R: World>(
         lines.push(more_words(rt.alloc(), more)?)?;
     }
     Ok(())
-}
-
-fn add_other<R: World>(
-    rt: &R,
-    host: &Machine<R>,
-    ended: &Ended,
-    lines: &mut Vec<String>,
-) -> Result<(), AllocError> {
-    lines.push(failed_too(rt.alloc(), &ended.place)?)?;
-    add_job(rt, host, Some(&ended.ticket), lines)
 }
 
 // Adds what became of the jobs.

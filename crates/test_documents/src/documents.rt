@@ -1,6 +1,5 @@
 //! Reads the documents of rows, and answers `ok` or what is wrong with them first.
 use document_table::{DocumentError, DocumentFault, read_document};
-use serde_json::Value;
 use std::alloc::{AllocError, Global};
 use test_rows::{Row, RowFault, json_text};
 
@@ -52,11 +51,7 @@ fn is_no_json(alloc: Global, text: &[u8]) -> Result<bool, RowFault> {
 
 fn answer(alloc: Global, text: &str) -> Result<String, RowFault> {
     let found = read_document(alloc, text.as_bytes());
-    found_text(alloc, &found)
-}
-
-fn found_text(alloc: Global, found: &Result<Value, DocumentError>) -> Result<String, RowFault> {
-    match found {
+    match &found {
         Ok(_) => Ok(String::from_str(alloc, "ok")?),
         Err(DocumentError::Refused(fault)) => Ok(told(alloc, fault)?),
         Err(DocumentError::OutOfMemory) => Err(RowFault::OutOfMemory),

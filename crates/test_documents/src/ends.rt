@@ -43,14 +43,9 @@ fn put_outputs(
         put_output(alloc, outputs, "o", end.get(1))?;
         put_output(alloc, outputs, "p", end.get(2))
     } else {
-        put_numbered(alloc, outputs, number)
+        let value = numbered_file(alloc, number)?;
+        Ok(add(alloc, outputs, "o", value)?)
     }
-}
-
-fn put_numbered(alloc: Global, outputs: &mut Keyed<Value>, number: u64) -> Result<(), RowFault> {
-    let name = Text::from_text(alloc, "o")?;
-    let value = numbered_file(alloc, number)?;
-    Ok(add(outputs, name, value)?)
 }
 
 fn numbered_file(alloc: Global, number: u64) -> Result<Value, AllocError> {
@@ -66,23 +61,18 @@ fn put_output(
 ) -> Result<(), RowFault> {
     match json {
         None => Ok(()),
-        Some(json) => put_value(alloc, outputs, name, json),
+        Some(json) => Ok(add(alloc, outputs, name, output(alloc, json)?)?),
     }
 }
 
-fn put_value(
+/// Adds the value by its name.
+pub(crate) fn add(
     alloc: Global,
     outputs: &mut Keyed<Value>,
     name: &str,
-    json: &Json,
-) -> Result<(), RowFault> {
+    value: Value,
+) -> Result<(), AllocError> {
     let name = Text::from_text(alloc, name)?;
-    let value = output(alloc, json)?;
-    Ok(add(outputs, name, value)?)
-}
-
-/// Adds the value by its name.
-pub(crate) fn add(outputs: &mut Keyed<Value>, name: Text, value: Value) -> Result<(), AllocError> {
     drop(outputs.insert(name, value)?);
     Ok(())
 }

@@ -25,31 +25,14 @@ pub(crate) fn answer(alloc: Global, row: &Row, copy: bool) -> Result<String, Row
 
 fn launch_of(alloc: Global, tool: &Tool, row: &Row, copy: bool) -> Result<String, RowFault> {
     let runtime = runtime(alloc, row.text("outdir").unwrap_or("/w/j1/out"))?;
-    launch_in(alloc, tool, row, &runtime, copy)
-}
-
-fn launch_in(
-    alloc: Global,
-    tool: &Tool,
-    row: &Row,
-    runtime: &Runtime,
-    copy: bool,
-) -> Result<String, RowFault> {
     let inputs = fields_of(alloc, row.json("inputs")?)?;
-    let outcome = build(alloc, tool, &inputs, runtime);
+    let outcome = build(alloc, tool, &inputs, &runtime);
     mem::drop(inputs);
-    outcome_text(alloc, &outcome, copy)
-}
-
-fn outcome_text(
-    alloc: Global,
-    outcome: &Result<Launch, BuildError>,
-    copy: bool,
-) -> Result<String, RowFault> {
-    match outcome {
+    match &outcome {
         Ok(launch) if copy => copy_text(alloc, launch),
         Ok(launch) => launch_text(alloc, launch),
-        Err(error) => not_built(alloc, error),
+        Err(BuildError::Refused(fault)) => refused(alloc, fault),
+        Err(BuildError::OutOfMemory) => Err(RowFault::OutOfMemory),
     }
 }
 
@@ -59,13 +42,6 @@ fn runtime(alloc: Global, outdir: &str) -> Result<Runtime, AllocError> {
         tmpdir: Text::from_text(alloc, "/w/j1/tmp")?,
         path_env: Text::from_text(alloc, "/bin")?,
     })
-}
-
-fn not_built(alloc: Global, error: &BuildError) -> Result<String, RowFault> {
-    match error {
-        BuildError::OutOfMemory => Err(RowFault::OutOfMemory),
-        BuildError::Refused(fault) => refused(alloc, fault),
-    }
 }
 
 fn refused(alloc: Global, fault: &BuildFault) -> Result<String, RowFault> {
@@ -87,36 +63,28 @@ fn launch_text(alloc: Global, launch: &Launch) -> Result<String, RowFault> {
     put_texts(&mut out, launch.words.as_slice());
     out.put(",\"env\":");
     put_variables(&mut out, launch.env.as_slice());
-    put_streams(&mut out, launch);
+    out.put(",\"stdin\":");
+    put_text_or_null(&mut out, &launch.stdin);
+    out.put(",\"stdout\":");
+    put_text_or_null(&mut out, &launch.stdout);
+    out.put(",\"stderr\":");
+    put_text_or_null(&mut out, &launch.stderr);
     out.put(",\"dir\":");
     out.put_quoted(launch.dir.as_str());
     out.put("}");
     out.finish()
 }
 
-fn put_streams(out: &mut AnswerText, launch: &Launch) {
-    out.put(",\"stdin\":");
-    put_text_or_null(out, &launch.stdin);
-    out.put(",\"stdout\":");
-    put_text_or_null(out, &launch.stdout);
-    out.put(",\"stderr\":");
-    put_text_or_null(out, &launch.stderr);
-}
-
 fn put_variables(out: &mut AnswerText, env: &[Variable]) {
     out.put("[");
     for variable in env {
         out.put_comma();
-        put_variable(out, variable);
+        out.put("[");
+        out.put_quoted(variable.name.as_str());
+        out.put(",");
+        out.put_quoted(variable.text.as_str());
+        out.put("]");
     }
-    out.put("]");
-}
-
-fn put_variable(out: &mut AnswerText, variable: &Variable) {
-    out.put("[");
-    out.put_quoted(variable.name.as_str());
-    out.put(",");
-    out.put_quoted(variable.text.as_str());
     out.put("]");
 }
 

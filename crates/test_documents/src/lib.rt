@@ -55,9 +55,8 @@ fn of_processes(alloc: Global, row: &Row) -> Result<String, RowFault> {
         "build" => launches::answer(alloc, row, false),
         "copied_launch" => launches::answer(alloc, row, true),
         "accept" => accepted::answer(alloc, row),
-        "unfold" => unfold::answer(alloc, row),
+        "unfold" | "unfold_orders" => unfold::answer(alloc, row),
         "load_cost" => costs::answer(alloc, row),
-        "unfold_orders" => orders::answer(alloc, row),
         "step_input" | "value_froms" | "when_value" => step_inputs::answer(alloc, row),
         _ => Err(RowFault::UnknownCall),
     }

@@ -2,7 +2,7 @@
 use crate::documents::told;
 use crate::process::{put_asked, put_key, put_texts};
 use crate::values::put_default;
-use cwl_process::{StepInput, Tool, ToolInput, WorkflowInput};
+use cwl_process::{Tool, WorkflowInput};
 use document_links::{
     Docs, Document, LinkError, LinkFault, Process, Step, Workflow, needed_docs, read_process,
 };
@@ -32,43 +32,27 @@ pub(crate) fn process_of(alloc: Global, row: &Row) -> Result<Process, RowFault> 
     mem::drop(docs);
     match found? {
         Ok(process) => Ok(process),
-        Err(error) => Err(fault_of(&error)),
-    }
-}
-
-fn fault_of(error: &LinkError) -> RowFault {
-    match error {
-        LinkError::Refused(_) => RowFault::BadArgument,
-        LinkError::OutOfMemory => RowFault::OutOfMemory,
+        Err(LinkError::Refused(_)) => Err(RowFault::BadArgument),
+        Err(LinkError::OutOfMemory) => Err(RowFault::OutOfMemory),
     }
 }
 
 /// The URLs that the row's document names at its base, or its fault.
 pub(crate) fn needed(alloc: Global, row: &Row) -> Result<String, RowFault> {
     let urls = urls(alloc, row)?;
-    let answer = urls_answer(alloc, &urls);
+    let answer = match &urls {
+        Ok(urls) => urls_text(alloc, urls.as_slice()),
+        Err(LinkError::Refused(fault)) => fault_told(alloc, fault),
+        Err(LinkError::OutOfMemory) => Err(RowFault::OutOfMemory),
+    };
     mem::drop(urls);
     answer
 }
 
-type Urls = Result<Items<Text>, LinkError>;
-
-fn urls(alloc: Global, row: &Row) -> Result<Urls, RowFault> {
+fn urls(alloc: Global, row: &Row) -> Result<Result<Items<Text>, LinkError>, RowFault> {
     let base = base_url(alloc, row.text("base")?)?;
-    urls_at(alloc, row, &base)
-}
-
-fn urls_at(alloc: Global, row: &Row, base: &Url) -> Result<Urls, RowFault> {
     let document = document(alloc, row.json("document")?)?;
-    Ok(needed_docs(alloc, &document, base))
-}
-
-fn urls_answer(alloc: Global, urls: &Urls) -> Result<String, RowFault> {
-    match urls {
-        Ok(urls) => urls_text(alloc, urls.as_slice()),
-        Err(LinkError::Refused(fault)) => fault_told(alloc, fault),
-        Err(LinkError::OutOfMemory) => Err(RowFault::OutOfMemory),
-    }
+    Ok(needed_docs(alloc, &document, &base))
 }
 
 fn urls_text(alloc: Global, urls: &[Text]) -> Result<String, RowFault> {
@@ -81,12 +65,8 @@ type Found = Result<Process, LinkError>;
 
 fn found(alloc: Global, row: &Row, base: &str, docs: &Docs) -> Result<Found, RowFault> {
     let base = base_url(alloc, base)?;
-    found_at(alloc, row, &base, docs)
-}
-
-fn found_at(alloc: Global, row: &Row, base: &Url, docs: &Docs) -> Result<Found, RowFault> {
     let document = document(alloc, row.json("document")?)?;
-    Ok(read_process(alloc, &document, base, docs))
+    Ok(read_process(alloc, &document, &base, docs))
 }
 
 fn answer(alloc: Global, found: &Found) -> Result<String, RowFault> {
@@ -129,21 +109,11 @@ pub(crate) fn docs(alloc: Global, row: &Row) -> Result<Docs, RowFault> {
 fn put_docs(alloc: Global, docs: &mut Keyed<Document>, row: &Row) -> Result<(), RowFault> {
     if let Some(Value::Object(members)) = row.find("docs") {
         for (url, json) in members.iter() {
-            put_document(alloc, docs, url.as_str(), json)?;
+            let name = Text::from_text(alloc, url.as_str())?;
+            let document = document(alloc, json)?;
+            drop(docs.insert(name, document)?);
         }
     }
-    Ok(())
-}
-
-fn put_document(
-    alloc: Global,
-    docs: &mut Keyed<Document>,
-    url: &str,
-    json: &Value,
-) -> Result<(), RowFault> {
-    let name = Text::from_text(alloc, url)?;
-    let document = document(alloc, json)?;
-    drop(docs.insert(name, document)?);
     Ok(())
 }
 
@@ -169,17 +139,12 @@ fn put_tool(alloc: Global, out: &mut AnswerText, tool: &Tool) {
     out.put("{\"baseCommand\":");
     put_texts(out, tool.base_command.as_slice());
     put_asked(out, &tool.asked);
-    put_tool_defaults(alloc, out, tool.inputs.as_slice());
-    out.put("}");
-}
-
-fn put_tool_defaults(alloc: Global, out: &mut AnswerText, inputs: &[(Text, ToolInput)]) {
-    if inputs.is_empty() {
-        return;
-    }
-    out.put(",\"defaults\":{");
-    for entry in inputs {
-        put_default(alloc, out, &entry.0, &entry.1.default);
+    if !tool.inputs.is_empty() {
+        out.put(",\"defaults\":{");
+        for entry in tool.inputs.as_slice() {
+            put_default(alloc, out, &entry.0, &entry.1.default);
+        }
+        out.put("}");
     }
     out.put("}");
 }
@@ -213,16 +178,12 @@ fn put_step(alloc: Global, out: &mut AnswerText, step: &Step) {
     if step.inputs.is_empty() {
         put_process(alloc, out, &step.process);
     } else {
-        put_step_defaults(alloc, out, step.inputs.as_slice());
+        out.put("[{");
+        for entry in step.inputs.as_slice() {
+            put_default(alloc, out, &entry.0, &entry.1.default);
+        }
+        out.put("},");
         put_process(alloc, out, &step.process);
         out.put("]");
     }
-}
-
-fn put_step_defaults(alloc: Global, out: &mut AnswerText, inputs: &[(Text, StepInput)]) {
-    out.put("[{");
-    for entry in inputs {
-        put_default(alloc, out, &entry.0, &entry.1.default);
-    }
-    out.put("},");
 }

@@ -5,7 +5,6 @@ ghost use Rattle.job_graph.specs.PresentJobGraph.{AreWithin};
 
 use crate::arguments::fields_of;
 use crate::ends::{number_of, outputs_of, place_of};
-use crate::linked::process_of;
 use crate::short::{put_entries, put_short_place};
 use crate::unfold::put_error;
 use cwl_value::Value;
@@ -18,30 +17,15 @@ use std::alloc::{AllocError, Global};
 use test_rows::{AnswerText, Row, RowFault};
 
 /// Of each of the row's `orders` what is known at once, and what each end adds.
-pub(crate) fn answer(alloc: Global, row: &Row) -> Result<String, RowFault> {
-    let process = process_of(alloc, row)?;
-    let answer = of_process(alloc, row, &process);
-    drop(process);
-    answer
-}
-
-fn of_process(alloc: Global, row: &Row, process: &Process) -> Result<String, RowFault> {
+pub(crate) fn of_orders(alloc: Global, row: &Row, process: &Process) -> Result<String, RowFault> {
     let inputs = fields_of(alloc, row.json("inputs")?)?;
-    of_orders(alloc, row.list("orders")?, process, &inputs)
-}
-
-fn of_orders(
-    alloc: Global,
-    orders: &[Json],
-    process: &Process,
-    inputs: &Keyed<Value>,
-) -> Result<String, RowFault> {
+    let orders = row.list("orders")?;
     let mut out = AnswerText::new(alloc);
     out.put("[");
     for order in orders {
         out.put_comma();
         out.put("[[");
-        put_order(alloc, &mut out, process, inputs, order);
+        put_order(alloc, &mut out, process, &inputs, order);
         out.put("]]");
     }
     out.put("]");
@@ -57,20 +41,10 @@ fn put_order(
 ) {
     match order.as_array() {
         None => out.fail(RowFault::BadArgument),
-        Some(ends) => put_ends(alloc, out, process, inputs, ends.as_slice()),
-    }
-}
-
-fn put_ends(
-    alloc: Global,
-    out: &mut AnswerText,
-    process: &Process,
-    inputs: &Keyed<Value>,
-    ends: &[Json],
-) {
-    match Unfolding::new(alloc, process, inputs, Keyed::new(alloc)) {
-        Ok(mut unfolding) => learn_all(alloc, out, &mut unfolding, ends),
-        Err(error) => put_error(alloc, out, &error),
+        Some(ends) => match Unfolding::new(alloc, process, inputs, Keyed::new(alloc)) {
+            Ok(mut unfolding) => learn_all(alloc, out, &mut unfolding, ends.as_slice()),
+            Err(error) => put_error(alloc, out, &error),
+        },
     }
 }
 
@@ -112,19 +86,18 @@ fn put_more(
     unfolding: &Unfolding<'_>,
     needed: &mut Vec<bool>,
 ) {
-    put_jobs(alloc, out, unfolding.known(), needed.len());
-    put_graph(alloc, out, unfolding, needed);
+    let known = unfolding.known();
+    for number in needed.len()..known.len() {
+        out.put_comma();
+        put_job(alloc, out, &known[number]);
+    }
+    match graph_of(alloc, unfolding) {
+        Ok(graph) => put_needed(alloc, out, graph.vertices(), known, needed),
+        Err(error) => put_error(alloc, out, &error),
+    }
     if let Some(outputs) = unfolding.result() {
         out.put_comma();
         put_entries(alloc, out, outputs);
-    }
-}
-
-/// Puts the jobs from this number on.
-fn put_jobs(alloc: Global, out: &mut AnswerText, known: &[KnownJob<'_>], told: usize) {
-    for number in told..known.len() {
-        out.put_comma();
-        put_job(alloc, out, &known[number]);
     }
 }
 
@@ -134,18 +107,6 @@ fn put_job(alloc: Global, out: &mut AnswerText, known: &KnownJob<'_>) {
     for parent in known.parents.as_slice() {
         out.put("<");
         out.put_natural(*parent as u64);
-    }
-}
-
-fn put_graph(
-    alloc: Global,
-    out: &mut AnswerText,
-    unfolding: &Unfolding<'_>,
-    needed: &mut Vec<bool>,
-) {
-    match graph_of(alloc, unfolding) {
-        Ok(graph) => put_needed(alloc, out, graph.vertices(), unfolding.known(), needed),
-        Err(error) => put_error(alloc, out, &error),
     }
 }
 

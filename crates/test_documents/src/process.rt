@@ -4,8 +4,8 @@ use crate::short::put_canonical;
 use crate::template::{put_parts, put_template};
 use crate::tool::{put_members, put_secondaries, put_tool};
 use cwl_process::{
-    Asked, Entries, Links, Merge, Pick, Process, Run, RunName, Source, Step, StepInput, Variable,
-    Workflow, WorkflowInput, WorkflowOutput, read_unlinked,
+    Asked, Links, Merge, Pick, Process, Run, RunName, Source, Step, StepInput, Variable, Workflow,
+    WorkflowInput, WorkflowOutput, read_unlinked,
 };
 use cwl_value::Value;
 use document_table::DocumentError;
@@ -77,44 +77,31 @@ fn put_workflow(alloc: Global, out: &mut AnswerText, workflow: &Workflow) {
     out.put("},\"outputs\":{");
     put_workflow_outputs(alloc, out, workflow.outputs.as_slice());
     out.put("},\"steps\":{");
-    put_steps(alloc, out, &workflow.steps);
+    for entry in workflow.steps.as_slice() {
+        put_key(out, entry.0.as_str());
+        put_step(alloc, out, &entry.1);
+    }
     out.put("}}");
 }
 
 fn put_workflow_inputs(alloc: Global, out: &mut AnswerText, inputs: &[(Text, WorkflowInput)]) {
-    for entry in inputs {
-        put_key(out, entry.0.as_str());
-        put_workflow_input(alloc, out, &entry.1);
+    for (name, input) in inputs {
+        put_key(out, name.as_str());
+        out.put("{\"type\":");
+        put_members(alloc, out, &input.kind);
+        put_default(alloc, out, &input.default);
+        put_secondaries(out, &input.secondary_files);
+        out.put("}");
     }
-}
-
-fn put_workflow_input(alloc: Global, out: &mut AnswerText, input: &WorkflowInput) {
-    out.put("{\"type\":");
-    put_members(alloc, out, &input.kind);
-    put_default(alloc, out, &input.default);
-    put_secondaries(out, &input.secondary_files);
-    out.put("}");
 }
 
 fn put_workflow_outputs(alloc: Global, out: &mut AnswerText, outputs: &[(Text, WorkflowOutput)]) {
-    for entry in outputs {
-        put_key(out, entry.0.as_str());
-        put_workflow_output(alloc, out, &entry.1);
-    }
-}
-
-fn put_workflow_output(alloc: Global, out: &mut AnswerText, output: &WorkflowOutput) {
-    out.put("{\"type\":");
-    put_members(alloc, out, &output.kind);
-    put_links(out, &output.links);
-    out.put("}");
-}
-
-#[cycle(process)]
-fn put_steps(alloc: Global, out: &mut AnswerText, steps: &Entries<Step>) {
-    for entry in steps.as_slice() {
-        put_key(out, entry.0.as_str());
-        put_step(alloc, out, &entry.1);
+    for (name, output) in outputs {
+        put_key(out, name.as_str());
+        out.put("{\"type\":");
+        put_members(alloc, out, &output.kind);
+        put_links(out, &output.links);
+        out.put("}");
     }
 }
 
@@ -122,26 +109,24 @@ fn put_steps(alloc: Global, out: &mut AnswerText, steps: &Entries<Step>) {
 fn put_step(alloc: Global, out: &mut AnswerText, step: &Step) {
     put_step_parts(alloc, out, step);
     out.put(",\"run\":");
-    put_run(alloc, out, &step.run);
+    match &step.run {
+        Run::Inline(process) => put_process(alloc, out, process),
+        Run::Named(named) => put_named(out, named),
+    }
     out.put("}");
 }
 
 /// What the step says beside its process.
 fn put_step_parts(alloc: Global, out: &mut AnswerText, step: &Step) {
     out.put("{\"in\":{");
-    put_step_inputs(alloc, out, step.inputs.as_slice());
+    for entry in step.inputs.as_slice() {
+        put_key(out, entry.0.as_str());
+        put_step_input(alloc, out, &entry.1);
+    }
     out.put("},\"out\":");
     put_texts(out, step.outputs.as_slice());
     put_scatter(out, step);
     put_template(out, "when", &step.when);
-}
-
-#[cycle(process)]
-fn put_run(alloc: Global, out: &mut AnswerText, run: &Run) {
-    match run {
-        Run::Inline(process) => put_process(alloc, out, process),
-        Run::Named(named) => put_named(out, named),
-    }
 }
 
 fn put_named(out: &mut AnswerText, named: &RunName) {
@@ -169,13 +154,6 @@ fn method_text(method: Method) -> &'static str {
     }
 }
 
-fn put_step_inputs(alloc: Global, out: &mut AnswerText, inputs: &[(Text, StepInput)]) {
-    for entry in inputs {
-        put_key(out, entry.0.as_str());
-        put_step_input(alloc, out, &entry.1);
-    }
-}
-
 fn put_step_input(alloc: Global, out: &mut AnswerText, input: &StepInput) {
     out.put("{\"step_input\":true");
     put_links(out, &input.links);
@@ -187,7 +165,10 @@ fn put_step_input(alloc: Global, out: &mut AnswerText, input: &StepInput) {
 fn put_links(out: &mut AnswerText, links: &Links) {
     if let Some(sources) = &links.sources {
         out.put(",\"sources\":[");
-        put_sources(out, sources.as_slice());
+        for source in sources.as_slice() {
+            out.put_comma();
+            put_source(out, source);
+        }
         out.put("]");
     }
     out.put(merge_text(links.merge));
@@ -211,13 +192,6 @@ fn pick_text(pick: Option<Pick>) -> &'static str {
     }
 }
 
-fn put_sources(out: &mut AnswerText, sources: &[Source]) {
-    for source in sources {
-        out.put_comma();
-        put_source(out, source);
-    }
-}
-
 fn put_source(out: &mut AnswerText, source: &Source) {
     out.put("[");
     if let Some(step) = &source.step {
@@ -231,18 +205,14 @@ fn put_source(out: &mut AnswerText, source: &Source) {
 pub(crate) fn put_asked(out: &mut AnswerText, asked: &Asked) {
     if let Some(environment) = asked.environment() {
         out.put(",\"environment\":{");
-        put_variables(out, environment.as_slice());
+        for entry in environment.as_slice() {
+            put_key(out, entry.0.as_str());
+            put_variable(out, &entry.1);
+        }
         out.put("}");
     }
     if !asked.reuse() {
         out.put(",\"reuse\":false");
-    }
-}
-
-fn put_variables(out: &mut AnswerText, variables: &[(Text, Variable)]) {
-    for entry in variables {
-        put_key(out, entry.0.as_str());
-        put_variable(out, &entry.1);
     }
 }
 

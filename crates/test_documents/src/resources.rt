@@ -1,5 +1,6 @@
 //! What the hints of documents ask for, and what a launcher is told of their jobs.
 use crate::linked::{base_url, docs, document};
+use crate::process::put_key;
 use command_line::Variable;
 use cwl_value::{JobPlace, Segment};
 use document_links::Docs;
@@ -16,10 +17,12 @@ pub(crate) fn asked(alloc: Global, row: &Row) -> Result<String, RowFault> {
     let mut out = AnswerText::new(alloc);
     out.put("{");
     for entry in asked.as_slice() {
-        out.put_comma();
-        out.put_quoted(entry.0.as_str());
-        out.put(":");
-        put_resources(&mut out, &entry.1);
+        put_key(&mut out, entry.0.as_str());
+        out.put("[");
+        put_amount(&mut out, entry.1.cores);
+        put_amount(&mut out, entry.1.ram);
+        put_amount(&mut out, entry.1.tmpdir);
+        out.put("]");
     }
     out.put("}");
     mem::drop(asked);
@@ -35,7 +38,8 @@ pub(crate) fn told(alloc: Global, row: &Row) -> Result<String, RowFault> {
     let mut out = AnswerText::new(alloc);
     out.put("{");
     for variable in variables.as_slice() {
-        put_variable(&mut out, variable);
+        put_key(&mut out, variable.name.as_str());
+        out.put_quoted(variable.text.as_str());
     }
     out.put("}");
     mem::drop(variables);
@@ -55,14 +59,6 @@ fn asked_among(alloc: Global, row: &Row, docs: &Docs) -> Result<Keyed<Resources>
     Ok(resources_of(alloc, &document, &base, docs)?)
 }
 
-fn put_resources(out: &mut AnswerText, resources: &Resources) {
-    out.put("[");
-    put_amount(out, resources.cores);
-    put_amount(out, resources.ram);
-    put_amount(out, resources.tmpdir);
-    out.put("]");
-}
-
 fn put_amount(out: &mut AnswerText, amount: Option<u64>) {
     out.put_comma();
     match amount {
@@ -71,28 +67,17 @@ fn put_amount(out: &mut AnswerText, amount: Option<u64>) {
     }
 }
 
-fn put_variable(out: &mut AnswerText, variable: &Variable) {
-    out.put_comma();
-    out.put_quoted(variable.name.as_str());
-    out.put(":");
-    out.put_quoted(variable.text.as_str());
-}
-
 fn variables_of(
     alloc: Global,
     row: &Row,
     asked: &Keyed<Resources>,
 ) -> Result<Items<Variable>, RowFault> {
-    let job = job_of(alloc, row.list("place")?)?;
-    Ok(variables_for(alloc, asked, &job)?)
-}
-
-fn job_of(alloc: Global, steps: &[Json]) -> Result<JobPlace, RowFault> {
+    let steps = row.list("place")?;
     let mut job: JobPlace = Items::new(alloc);
     for step in steps {
         job.push(segment_of(alloc, step)?)?;
     }
-    Ok(job)
+    Ok(variables_for(alloc, asked, &job)?)
 }
 
 fn segment_of(alloc: Global, step: &Json) -> Result<Segment, RowFault> {

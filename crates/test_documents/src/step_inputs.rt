@@ -4,7 +4,7 @@ use cwl_process::{Links, Pick, StepInput};
 use cwl_value::{Value, canonical_text};
 use link_values::{LinkError, step_input, value_froms, when_value};
 use param_refs::Template;
-use plain_data::{Items, Keyed, Text};
+use plain_data::{Items, Text};
 use serde_json::Value as Json;
 use std::alloc::Global;
 use test_rows::{Row, RowFault};
@@ -21,42 +21,17 @@ pub(crate) fn answer(alloc: Global, row: &Row) -> Result<String, RowFault> {
 
 fn of_input(alloc: Global, row: &Row) -> Result<String, RowFault> {
     let input = input_of(alloc, row.json("input")?)?;
-    input_told(alloc, row, &input)
-}
-
-fn input_told(alloc: Global, row: &Row, input: &StepInput) -> Result<String, RowFault> {
     let value = value_of(alloc, row.json("value")?)?;
-    let found = step_input(alloc, input, value);
-    told(alloc, &found)
-}
-
-fn told(alloc: Global, found: &Result<Value, LinkError>) -> Result<String, RowFault> {
-    match found {
-        Ok(value) => written(alloc, value),
-        Err(error) => coded(alloc, error),
+    match step_input(alloc, &input, value) {
+        Ok(value) => written(alloc, &value),
+        Err(error) => coded(alloc, &error),
     }
 }
 
 fn of_value_froms(alloc: Global, row: &Row) -> Result<String, RowFault> {
     let inputs = inputs_of(alloc, row)?;
-    value_froms_told(alloc, row, inputs.as_slice())
-}
-
-fn value_froms_told(
-    alloc: Global,
-    row: &Row,
-    inputs: &[(Text, StepInput)],
-) -> Result<String, RowFault> {
     let given = fields_of(alloc, row.json("inputs")?)?;
-    value_froms_over(alloc, inputs, &given)
-}
-
-fn value_froms_over(
-    alloc: Global,
-    inputs: &[(Text, StepInput)],
-    given: &Keyed<Value>,
-) -> Result<String, RowFault> {
-    match value_froms(alloc, inputs, given) {
+    match value_froms(alloc, inputs.as_slice(), &given) {
         Ok(fields) => written(alloc, &Value::Fields(fields)),
         Err(error) => coded(alloc, &error),
     }
@@ -64,16 +39,8 @@ fn value_froms_over(
 
 fn of_when(alloc: Global, row: &Row) -> Result<String, RowFault> {
     let when = template_of(alloc, row.text("when")?)?;
-    when_told(alloc, row, &when)
-}
-
-fn when_told(alloc: Global, row: &Row, when: &Template) -> Result<String, RowFault> {
     let given = fields_of(alloc, row.json("inputs")?)?;
-    when_over(alloc, when, &given)
-}
-
-fn when_over(alloc: Global, when: &Template, given: &Keyed<Value>) -> Result<String, RowFault> {
-    match when_value(when, given) {
+    match when_value(&when, &given) {
         Ok(flag) => written(alloc, &Value::Bool(flag)),
         Err(error) => coded(alloc, &error),
     }
@@ -91,23 +58,14 @@ fn coded(alloc: Global, error: &LinkError) -> Result<String, RowFault> {
 }
 
 fn inputs_of(alloc: Global, row: &Row) -> Result<Vec<(Text, StepInput)>, RowFault> {
-    let mut inputs = Vec::new(alloc);
-    put_inputs(alloc, &mut inputs, row)?;
-    Ok(inputs)
-}
-
-fn put_inputs(
-    alloc: Global,
-    inputs: &mut Vec<(Text, StepInput)>,
-    row: &Row,
-) -> Result<(), RowFault> {
     let Json::Object(members) = row.json("in")? else {
         return Err(RowFault::BadArgument);
     };
+    let mut inputs = Vec::new(alloc);
     for (name, json) in members.iter() {
         inputs.push(named_input(alloc, name.as_str(), json)?)?;
     }
-    Ok(())
+    Ok(inputs)
 }
 
 fn named_input(alloc: Global, name: &str, json: &Json) -> Result<(Text, StepInput), RowFault> {
@@ -120,23 +78,15 @@ fn input_of(alloc: Global, json: &Json) -> Result<StepInput, RowFault> {
     let pick = pick_of(json.get("pickValue").and_then(|name| name.as_str()))?;
     let value_from = value_from_of(alloc, json)?;
     let default = default_of(alloc, json)?;
-    Ok(input_with(links_of(alloc, json, pick), default, value_from))
-}
-
-fn input_with(links: Links, default: Option<Value>, value_from: Option<Template>) -> StepInput {
-    StepInput {
-        links,
+    Ok(StepInput {
+        links: Links {
+            sources: json.get("source").map(|_source| Items::new(alloc)),
+            merge: None,
+            pick,
+        },
         default,
         value_from,
-    }
-}
-
-fn links_of(alloc: Global, json: &Json, pick: Option<Pick>) -> Links {
-    Links {
-        sources: json.get("source").map(|_source| Items::new(alloc)),
-        merge: None,
-        pick,
-    }
+    })
 }
 
 fn default_of(alloc: Global, json: &Json) -> Result<Option<Value>, RowFault> {

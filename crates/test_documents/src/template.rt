@@ -23,16 +23,12 @@ pub(crate) fn put_parts(out: &mut AnswerText, template: &Template) {
     out.put("[");
     for part in template.parts() {
         out.put_comma();
-        put_part(out, part);
+        match part {
+            Part::Plain(text) => out.put_quoted(text.as_str()),
+            Part::Referred(reference) => put_reference(out, reference),
+        }
     }
     out.put("]");
-}
-
-fn put_part(out: &mut AnswerText, part: &Part) {
-    match part {
-        Part::Plain(text) => out.put_quoted(text.as_str()),
-        Part::Referred(reference) => put_reference(out, reference),
-    }
 }
 
 fn put_reference(out: &mut AnswerText, reference: &Reference) {
@@ -40,14 +36,10 @@ fn put_reference(out: &mut AnswerText, reference: &Reference) {
     out.put_quoted(reference.symbol.as_str());
     for segment in reference.segments.as_slice() {
         out.put(",");
-        put_segment(out, segment);
+        match segment {
+            Segment::Key(key) => out.put_quoted(key.as_str()),
+            Segment::Index(digits) => out.put(digits.as_str()),
+        }
     }
     out.put("]");
-}
-
-fn put_segment(out: &mut AnswerText, segment: &Segment) {
-    match segment {
-        Segment::Key(key) => out.put_quoted(key.as_str()),
-        Segment::Index(digits) => out.put(digits.as_str()),
-    }
 }

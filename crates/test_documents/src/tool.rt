@@ -3,8 +3,7 @@ use crate::process::{put_asked, put_default, put_key, put_text, put_texts};
 use crate::template::{put_template, put_templates};
 use crate::types::members_text;
 use cwl_process::{
-    Binding, ExitCodes, InputType, OutputBinding, OutputType, SecondaryFile, Streams, Tool,
-    ToolInput, ToolOutput,
+    Binding, InputType, OutputBinding, OutputType, SecondaryFile, Tool, ToolInput, ToolOutput,
 };
 use cwl_types::MemberType;
 use plain_data::{Items, Text};
@@ -17,22 +16,14 @@ pub(crate) fn put_tool(alloc: Global, out: &mut AnswerText, tool: &Tool) {
     put_arguments(out, tool.arguments.as_slice());
     put_inputs(alloc, out, tool.inputs.as_slice());
     put_outputs(alloc, out, tool.outputs.as_slice());
-    put_streams(out, &tool.streams);
-    put_exit_codes(out, &tool.exit_codes);
+    put_template(out, "stdin", &tool.streams.stdin);
+    put_template(out, "stdout", &tool.streams.stdout);
+    put_template(out, "stderr", &tool.streams.stderr);
+    put_codes(out, "success", tool.exit_codes.success.as_slice());
+    put_codes(out, "temporary", tool.exit_codes.temporary.as_slice());
+    put_codes(out, "permanent", tool.exit_codes.permanent.as_slice());
     put_asked(out, &tool.asked);
     out.put("}");
-}
-
-fn put_streams(out: &mut AnswerText, streams: &Streams) {
-    put_template(out, "stdin", &streams.stdin);
-    put_template(out, "stdout", &streams.stdout);
-    put_template(out, "stderr", &streams.stderr);
-}
-
-fn put_exit_codes(out: &mut AnswerText, codes: &ExitCodes) {
-    put_codes(out, "success", codes.success.as_slice());
-    put_codes(out, "temporary", codes.temporary.as_slice());
-    put_codes(out, "permanent", codes.permanent.as_slice());
 }
 
 fn put_codes(out: &mut AnswerText, name: &str, codes: &[i32]) {
@@ -79,28 +70,20 @@ fn put_inputs(alloc: Global, out: &mut AnswerText, inputs: &[(Text, ToolInput)])
 
 fn put_input(alloc: Global, out: &mut AnswerText, input: &ToolInput) {
     out.put("{\"type\":");
-    put_input_type(alloc, out, &input.kind);
+    match &input.kind {
+        InputType::Stdin => out.put("\"stdin\""),
+        InputType::Members(members) => put_members(alloc, out, members),
+    }
     put_default(alloc, out, &input.default);
-    put_input_binding(out, &input.binding);
+    if let Some(binding) = &input.binding {
+        out.put(",\"binding\":");
+        put_binding(out, binding);
+    }
     if input.load_contents {
         out.put(",\"loadContents\":true");
     }
     put_secondaries(out, &input.secondary_files);
     out.put("}");
-}
-
-fn put_input_type(alloc: Global, out: &mut AnswerText, kind: &InputType) {
-    match kind {
-        InputType::Stdin => out.put("\"stdin\""),
-        InputType::Members(members) => put_members(alloc, out, members),
-    }
-}
-
-fn put_input_binding(out: &mut AnswerText, binding: &Option<Binding>) {
-    if let Some(binding) = binding {
-        out.put(",\"binding\":");
-        put_binding(out, binding);
-    }
 }
 
 fn put_outputs(alloc: Global, out: &mut AnswerText, outputs: &[(Text, ToolOutput)]) {
@@ -114,20 +97,16 @@ fn put_outputs(alloc: Global, out: &mut AnswerText, outputs: &[(Text, ToolOutput
 
 fn put_output(alloc: Global, out: &mut AnswerText, output: &ToolOutput) {
     out.put("{\"type\":");
-    put_output_type(alloc, out, &output.kind);
+    match &output.kind {
+        OutputType::Stdout => out.put("\"stdout\""),
+        OutputType::Stderr => out.put("\"stderr\""),
+        OutputType::Members(members) => put_members(alloc, out, members),
+    }
     if let Some(binding) = &output.binding {
         put_output_binding(out, binding);
     }
     put_secondaries(out, &output.secondary_files);
     out.put("}");
-}
-
-fn put_output_type(alloc: Global, out: &mut AnswerText, kind: &OutputType) {
-    match kind {
-        OutputType::Stdout => out.put("\"stdout\""),
-        OutputType::Stderr => out.put("\"stderr\""),
-        OutputType::Members(members) => put_members(alloc, out, members),
-    }
 }
 
 fn put_output_binding(out: &mut AnswerText, binding: &OutputBinding) {
@@ -149,18 +128,14 @@ pub(crate) fn put_secondaries(out: &mut AnswerText, files: &Items<SecondaryFile>
     out.put(",\"secondaryFiles\":[");
     for file in files.as_slice() {
         out.put_comma();
-        put_secondary(out, file);
+        out.put(if file.required {
+            "\"needed\","
+        } else {
+            "\"optional\","
+        });
+        out.put_quoted(file.pattern.as_str());
     }
     out.put("]");
-}
-
-fn put_secondary(out: &mut AnswerText, file: &SecondaryFile) {
-    out.put(if file.required {
-        "\"needed\","
-    } else {
-        "\"optional\","
-    });
-    out.put_quoted(file.pattern.as_str());
 }
 
 /// A type as one text: the list of its members.

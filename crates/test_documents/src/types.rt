@@ -4,18 +4,18 @@ use crate::documents::told;
 use cwl_types::{ArrayType, ItemBinding, MemberType, PlainType, read_type};
 use document_table::{Form, fault_in};
 use plain_data::Text;
-use serde_json::Value;
 use std::alloc::Global;
 use test_rows::{AnswerText, Row, RowFault};
 use type_check::fits;
 
 /// The members of the row's type, or its fault.
 pub(crate) fn read(alloc: Global, row: &Row) -> Result<String, RowFault> {
-    let value = row.json("type")?;
-    match fault_in(alloc, Form::Type, value)? {
-        Some(fault) => Ok(told(alloc, &fault)?),
-        None => read_members(alloc, value),
+    let kind = row.json("type")?;
+    if let Some(fault) = fault_in(alloc, Form::Type, kind)? {
+        return Ok(told(alloc, &fault)?);
     }
+    let members = read_type(alloc, kind)?;
+    members_text(alloc, members.as_slice())
 }
 
 /// Whether the row's value fits its type, or the type's fault.
@@ -31,11 +31,6 @@ pub(crate) fn fits_type(alloc: Global, row: &Row) -> Result<String, RowFault> {
     out.finish()
 }
 
-fn read_members(alloc: Global, value: &Value) -> Result<String, RowFault> {
-    let members = read_type(alloc, value)?;
-    members_text(alloc, members.as_slice())
-}
-
 /// The list of the members.
 pub(crate) fn members_text(alloc: Global, members: &[MemberType]) -> Result<String, RowFault> {
     let mut out = AnswerText::new(alloc);
@@ -48,18 +43,13 @@ fn put_members(out: &mut AnswerText, members: &[MemberType]) {
     out.put("[");
     for member in members {
         out.put_comma();
-        put_member(out, member);
+        match member {
+            MemberType::Plain(plain) => out.put(name_of(*plain)),
+            MemberType::Array(array) => put_array(out, array),
+            MemberType::Enum(symbols) => put_enum(out, symbols.as_slice()),
+        }
     }
     out.put("]");
-}
-
-#[cycle(members)]
-fn put_member(out: &mut AnswerText, member: &MemberType) {
-    match member {
-        MemberType::Plain(plain) => out.put(name_of(*plain)),
-        MemberType::Array(array) => put_array(out, array),
-        MemberType::Enum(symbols) => put_enum(out, symbols.as_slice()),
-    }
 }
 
 #[cycle(members)]

@@ -2,6 +2,7 @@
 use crate::arguments::fields_of;
 use crate::ends::add;
 use crate::linked::process_of;
+use crate::orders::of_orders;
 use crate::process::put_key;
 use crate::short::put_canonical;
 use cwl_value::{JobPlace, Value, copy_job, place_text};
@@ -12,16 +13,20 @@ use serde_json::Value as Json;
 use std::alloc::{AllocError, Global};
 use test_rows::{AnswerText, Row, RowFault};
 
-/// The jobs that are known at once, those that each end adds, and then the result, or null; after a fault, its code with the
-/// place and the cause.
+/// `unfold` takes the ends of the jobs in one order, and `unfold_orders` in several.
 pub(crate) fn answer(alloc: Global, row: &Row) -> Result<String, RowFault> {
     let process = process_of(alloc, row)?;
-    let answer = of_process(alloc, row, &process);
+    let answer = match row.call() {
+        "unfold" => of_ends(alloc, row, &process),
+        _ => of_orders(alloc, row, &process),
+    };
     drop(process);
     answer
 }
 
-fn of_process(alloc: Global, row: &Row, process: &Process) -> Result<String, RowFault> {
+/// The jobs that are known at once, those that each end adds, and then the result, or null; after a fault, its code with the
+/// place and the cause.
+fn of_ends(alloc: Global, row: &Row, process: &Process) -> Result<String, RowFault> {
     let inputs = inputs(alloc, row)?;
     unfolded(alloc, row, process, &inputs)
 }
@@ -35,7 +40,10 @@ fn unfolded(
     let mut out = AnswerText::new(alloc);
     out.put("[");
     match Unfolding::new(alloc, process, inputs, Keyed::new(alloc)) {
-        Ok(mut unfolding) => learn_row(alloc, &mut out, &mut unfolding, row),
+        Ok(mut unfolding) => match row.list("ends") {
+            Ok(ends) => learn_all(alloc, &mut out, &mut unfolding, ends),
+            Err(fault) => out.fail(fault),
+        },
         Err(error) => put_error(alloc, &mut out, &error),
     }
     out.put("]");
@@ -53,21 +61,11 @@ fn put_lists(alloc: Global, inputs: &mut Keyed<Value>, row: &Row) -> Result<(), 
     if let Some(Json::Object(members)) = row.find("lists") {
         for (name, length) in members.iter() {
             let length = length.as_u64().ok_or(RowFault::BadArgument)?;
-            put_list(alloc, inputs, name.as_str(), length)?;
+            let list = list_of(alloc, length)?;
+            add(alloc, inputs, name.as_str(), list)?;
         }
     }
     Ok(())
-}
-
-fn put_list(
-    alloc: Global,
-    inputs: &mut Keyed<Value>,
-    name: &str,
-    length: u64,
-) -> Result<(), RowFault> {
-    let name = Text::from_text(alloc, name)?;
-    let list = list_of(alloc, length)?;
-    Ok(add(inputs, name, list)?)
 }
 
 fn list_of(alloc: Global, length: u64) -> Result<Value, RowFault> {
@@ -80,14 +78,6 @@ fn list_of(alloc: Global, length: u64) -> Result<Value, RowFault> {
     Ok(Value::of_items(items))
 }
 
-/// Learns the row's `ends`.
-fn learn_row(alloc: Global, out: &mut AnswerText, unfolding: &mut Unfolding<'_>, row: &Row) {
-    match row.list("ends") {
-        Ok(ends) => learn_all(alloc, out, unfolding, ends),
-        Err(fault) => out.fail(fault),
-    }
-}
-
 /// Learns the outputs of these ends, each a job's place and its outputs; a place that ends with `*` stands for all jobs
 /// whose places begin so, in their order.
 fn learn_all(alloc: Global, out: &mut AnswerText, unfolding: &mut Unfolding<'_>, ends: &[Json]) {
@@ -97,7 +87,11 @@ fn learn_all(alloc: Global, out: &mut AnswerText, unfolding: &mut Unfolding<'_>,
             return;
         }
     }
-    put_result(alloc, out, unfolding);
+    out.put(",");
+    match unfolding.result() {
+        None => out.put("null"),
+        Some(outputs) => put_entries(alloc, out, outputs),
+    }
 }
 
 /// Learns one end. Whether nothing is wrong with it.
@@ -232,14 +226,6 @@ fn put_place(alloc: Global, out: &mut AnswerText, place: &JobPlace) {
     }
 }
 
-fn put_result(alloc: Global, out: &mut AnswerText, unfolding: &Unfolding<'_>) {
-    out.put(",");
-    match unfolding.result() {
-        None => out.put("null"),
-        Some(outputs) => put_entries(alloc, out, outputs),
-    }
-}
-
 /// Puts entries in braces, each value as canonical text.
 fn put_entries(alloc: Global, out: &mut AnswerText, entries: &[(Text, Value)]) {
     out.put("{");
@@ -254,18 +240,14 @@ pub(crate) fn put_error(alloc: Global, out: &mut AnswerText, error: &UnfoldError
     out.put_comma();
     match error {
         UnfoldError::Refused(UnfoldFault::TooManyJobs) => out.put("\"U1\""),
-        UnfoldError::Refused(UnfoldFault::Fault(place, cause)) => put_fault(
-            alloc, out, place, cause,
-        ),
+        UnfoldError::Refused(UnfoldFault::Fault(place, cause)) => {
+            put_place(alloc, out, place);
+            out.put(",\"");
+            put_cause(out, cause);
+            out.put("\"");
+        }
         UnfoldError::OutOfMemory => out.fail(RowFault::OutOfMemory),
     }
-}
-
-fn put_fault(alloc: Global, out: &mut AnswerText, place: &JobPlace, cause: &Cause) {
-    put_place(alloc, out, place);
-    out.put(",\"");
-    put_cause(out, cause);
-    out.put("\"");
 }
 
 fn put_cause(out: &mut AnswerText, cause: &Cause) {

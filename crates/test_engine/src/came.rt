@@ -13,7 +13,7 @@ pub struct Came {
     /// How many Touches were refused.
     refused_touches: usize,
     /// Whether a Find was refused.
-    refused_find: bool,
+    pub refused_find: bool,
     /// Whether the run ended as these answers say, and no Put was done after one that was refused.
     pub ends_as_told: bool,
 }
@@ -31,10 +31,6 @@ impl Came {
     /// Whether nothing was refused, and the run ended so.
     pub fn is_whole(self) -> bool {
         self.ends_as_told && self.noted() == 0 && !self.refused_find
-    }
-
-    pub fn has_refused_find(self) -> bool {
-        self.refused_find
     }
 
     pub fn has_refused_put_alone(self) -> bool {
@@ -93,17 +89,14 @@ pub fn came_of(log: &[Entry], end: &Result<Report, RunFault>) -> Came {
     for entry in log {
         came = came.with(entry);
     }
-    Came {
-        ends_as_told: came.ends_as_told && ends_so(end, came),
-        ..came
-    }
-}
-
-fn ends_so(end: &Result<Report, RunFault>, came: Came) -> bool {
-    match end {
+    let ends_so = match end {
         Ok(report) => !came.refused_find && succeeds(report, came.noted()),
         Err(RunFault::Record(RecordRefusal::Store)) => came.refused_find,
         Err(_) => false,
+    };
+    Came {
+        ends_as_told: came.ends_as_told && ends_so,
+        ..came
     }
 }
 
@@ -116,16 +109,13 @@ fn succeeds(report: &Report, refused: usize) -> bool {
 
 fn are_refusals(notes: &[Note]) -> bool {
     for note in notes {
-        if !is_refusal(&note.kind) {
+        let is_refusal = matches!(
+            &note.kind,
+            NoteKind::Put(RecordRefusal::Store) | NoteKind::Touch(RecordRefusal::Store)
+        );
+        if !is_refusal {
             return false;
         }
     }
     true
-}
-
-fn is_refusal(kind: &NoteKind) -> bool {
-    matches!(
-        kind,
-        NoteKind::Put(RecordRefusal::Store) | NoteKind::Touch(RecordRefusal::Store)
-    )
 }

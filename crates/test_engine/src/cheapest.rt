@@ -14,9 +14,13 @@ pub fn least_cost(vertices: &[Vertex]) -> Option<u64> {
     if vertices.len() > MOST_TRIED {
         return None;
     }
-    let mut least = None;
+    let mut least: Option<u64> = None;
     for computed in 0..sets_of(vertices.len()) {
-        least = lesser(least, cost_of(vertices, computed));
+        least = match (least, cost_of(vertices, computed)) {
+            (Some(least), Some(cost)) => Some(least.min(cost)),
+            (None, cost) => cost,
+            (least, None) => least,
+        };
     }
     least
 }
@@ -26,14 +30,6 @@ fn sets_of(count: usize) -> u64
     requires { count ≤ 16 }
 {
     1 << count
-}
-
-fn lesser(least: Option<u64>, cost: Option<u64>) -> Option<u64> {
-    match (least, cost) {
-        (Some(least), Some(cost)) => Some(least.min(cost)),
-        (None, cost) => cost,
-        (least, None) => least,
-    }
 }
 
 /// What it costs to compute just these vertices, where the others that are wanted can be loaded. Each vertex is met after all that read it.

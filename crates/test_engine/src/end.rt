@@ -21,7 +21,9 @@ fn put_outcome(alloc: Global, out: &mut AnswerText, outcome: &Outcome) {
             out.put("{\"permanentFail\":");
             put_place(alloc, out, place);
             out.put(",\"cause\":");
-            put_cause(alloc, out, cause);
+            let mut text = AnswerText::new(alloc);
+            put_cause(&mut text, cause);
+            put_text(out, text);
             out.put("}");
         }
         Outcome::TemporaryFail(place) => {
@@ -49,13 +51,7 @@ pub fn put_place(alloc: Global, out: &mut AnswerText, place: &JobPlace) {
     }
 }
 
-fn put_cause(alloc: Global, out: &mut AnswerText, cause: &Cause) {
-    let mut text = AnswerText::new(alloc);
-    put_cause_words(&mut text, cause);
-    put_text(out, text);
-}
-
-fn put_cause_words(out: &mut AnswerText, cause: &Cause) {
+fn put_cause(out: &mut AnswerText, cause: &Cause) {
     match cause {
         Cause::Equation(cause) => put_equation(out, cause),
         Cause::Build(fault) => put_both(out, "Build ", fault.code()),

@@ -3,7 +3,6 @@
 use crate::run::{Case, case_at};
 use crate::trial::{Ended, Leg, Trial, end_of_run};
 use job_rows::MemoryRecord;
-use std::alloc::Global;
 use std::{fs, mem};
 use test_hosts::machine::place::{done, made, prepared, removed};
 use test_rows::{AnswerText, Row, RowFault};
@@ -35,15 +34,11 @@ pub fn answer(rt: &HostRuntime, row: &Row) -> Result<String, RowFault> {
 
 fn told_of(rt: &HostRuntime, row: &Row, place: &str) -> Result<String, RowFault> {
     prepared(rt, row, place)?;
-    let case = case_in(rt.alloc(), row, place)?;
+    let location = format!(in rt.alloc(); "file://{place}/inputs.json")?;
+    let case = case_at(rt.alloc(), row, location.as_str())?;
     let told = told_with(rt, row, place, &case);
     mem::drop(case);
     told
-}
-
-fn case_in(alloc: Global, row: &Row, place: &str) -> Result<Case, RowFault> {
-    let location = format!(in alloc; "file://{place}/inputs.json")?;
-    case_at(alloc, row, location.as_str())
 }
 
 fn told_with(rt: &HostRuntime, row: &Row, place: &str, case: &Case) -> Result<String, RowFault> {

@@ -69,22 +69,11 @@ fn seen_at(alloc: Global, number: u64) -> Result<Seen, RowFault> {
 fn seen_of(alloc: Global, row: &Row, chance: &mut Chance) -> Result<Seen, RowFault> {
     let case = case_of(alloc, row)?;
     let mut rows = MemoryRecord::new(alloc, None);
-    let seen = seen_twice(alloc, row, &case, chance, &mut rows);
+    let first = seen_once(alloc, row, &case, chance, &mut rows);
+    let second = seen_once(alloc, row, &case, chance, &mut rows);
     mem::drop(case);
     mem::drop(rows);
-    seen
-}
-
-fn seen_twice(
-    alloc: Global,
-    row: &Row,
-    case: &Case,
-    chance: &mut Chance,
-    rows: &mut MemoryRecord,
-) -> Result<Seen, RowFault> {
-    let first = seen_once(alloc, row, case, chance, rows)?;
-    let second = seen_once(alloc, row, case, chance, rows)?;
-    Ok(seen_with(first, second))
+    Ok(seen_with(first?, second?))
 }
 
 fn seen_once(

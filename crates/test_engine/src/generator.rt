@@ -19,7 +19,10 @@ pub fn row_of(alloc: Global, chance: &mut Chance) -> Result<Row, RowFault> {
     );
     put_outputs(&mut out, chance, jobs);
     out.put("},\"steps\":{");
-    put_steps(&mut out, chance, jobs);
+    for job in 0..jobs {
+        out.put_comma();
+        put_step(&mut out, job, chance.next());
+    }
     out.put("}}}");
     let text = out.finish()?;
     Row::read(alloc, text.as_str())
@@ -29,16 +32,12 @@ fn put_outputs(out: &mut AnswerText, chance: &mut Chance, jobs: u64) {
     for job in 0..jobs {
         if job + 1 == jobs || chance.below(4) == 0 {
             out.put_comma();
-            put_output(out, job);
+            put_name(out, "o", job);
+            out.put(":{\"type\":\"File\",\"outputSource\":\"s");
+            out.put_natural(job);
+            out.put("/o\"}");
         }
     }
-}
-
-fn put_output(out: &mut AnswerText, job: u64) {
-    put_name(out, "o", job);
-    out.put(":{\"type\":\"File\",\"outputSource\":\"s");
-    out.put_natural(job);
-    out.put("/o\"}");
 }
 
 fn put_name(out: &mut AnswerText, letter: &str, number: u64) {
@@ -46,13 +45,6 @@ fn put_name(out: &mut AnswerText, letter: &str, number: u64) {
     out.put(letter);
     out.put_natural(number);
     out.put("\"");
-}
-
-fn put_steps(out: &mut AnswerText, chance: &mut Chance, jobs: u64) {
-    for job in 0..jobs {
-        out.put_comma();
-        put_step(out, job, chance.next());
-    }
 }
 
 /// A step, which reads the files of the steps that `parents` decides.

@@ -19,20 +19,16 @@ pub fn put_answer(
     for order in 1..orders {
         let other = end_in(alloc, row, case, order)?;
         if other.as_str() != first.as_str() {
-            put_differ(out, first.as_str(), other.as_str());
+            out.put("{\"differ\":[");
+            out.put(first.as_str());
+            out.put(",");
+            out.put(other.as_str());
+            out.put("]}");
             return Ok(());
         }
     }
     out.put(first.as_str());
     Ok(())
-}
-
-fn put_differ(out: &mut AnswerText, first: &str, other: &str) {
-    out.put("{\"differ\":[");
-    out.put(first);
-    out.put(",");
-    out.put(other);
-    out.put("]}");
 }
 
 fn end_in(alloc: Global, row: &Row, case: &Case, order: u64) -> Result<String, RowFault> {

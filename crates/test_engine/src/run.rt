@@ -12,6 +12,7 @@ use run_core::{Options, Report, RunCore, RunFault};
 use serde_json::Value as Json;
 use std::alloc::Global;
 use std::mem;
+use test_hosts::machine::place::done;
 use test_hosts::script::natural_or;
 use test_rows::{Row, RowFault, json_text};
 use url::Url;
@@ -42,32 +43,22 @@ pub fn case_at(alloc: Global, row: &Row, location: &str) -> Result<Case, RowFaul
     }
 }
 
+/// The process of the row's document, in a file of the folder `/d`; there is no other document.
 fn accepted(alloc: Global, row: &Row) -> Result<Accepted, RowFault> {
-    let process = process_of(alloc, row)?;
-    done(accept(alloc, process))
-}
-
-/// The row's document, in a file of the folder `/d`; there is no other document.
-fn process_of(alloc: Global, row: &Row) -> Result<Process, RowFault> {
     let text = json_text(alloc, row.json("document")?)?;
     let bytes = text.as_bytes().to_vec(alloc)?;
     let document = Document::read(alloc, Items::from_vec(bytes))?;
     let process = process_in(alloc, &document);
     mem::drop(document);
-    process
+    done(accept(alloc, process?))
 }
 
 fn process_in(alloc: Global, document: &Document) -> Result<Process, RowFault> {
     let base = done(Url::parse(alloc, "file:///d/document.json"))?;
-    let process = process_at(alloc, document, &base);
-    mem::drop(base);
-    process
-}
-
-fn process_at(alloc: Global, document: &Document, base: &Url) -> Result<Process, RowFault> {
     let docs = Docs::of(alloc, Keyed::new(alloc))?;
-    let process = done(read_process(alloc, document, base, &docs));
+    let process = done(read_process(alloc, document, &base, &docs));
     mem::drop(docs);
+    mem::drop(base);
     process
 }
 
@@ -88,13 +79,6 @@ fn located(alloc: Global, json: &Json, base: &Url) -> Result<Keyed<Value>, RowFa
             mem::drop(other);
             Err(RowFault::BadArgument)
         }
-    }
-}
-
-fn done<T, E: Drop>(outcome: Result<T, E>) -> Result<T, RowFault> {
-    match outcome {
-        Ok(value) => Ok(value),
-        Err(_) => Err(RowFault::BadArgument),
     }
 }
 

@@ -3,10 +3,10 @@ ghost use Rattle.std.specs.Prelude.{◌≡◌, []};
 
 use crate::end::{put_end, put_place};
 use crate::run::{Case, case_of, end_over, options_with};
-use job_rows::{Command, Entry, MemoryRecord, Record, RecordError, Row as Kept};
+use job_rows::{Command, Entry, MemoryRecord, Record, RecordError};
 use plain_data::{Items, Text};
 use proc_host::Scripted;
-use run_core::{Note, NoteKind, PlanNote, Report, RunFault};
+use run_core::{Note, NoteKind, PlanNote, Report};
 use serde_json::Value as Json;
 use std::alloc::{AllocError, Global};
 use std::mem;
@@ -169,18 +169,14 @@ fn put_run_on(
     let options = options_with(alloc, row, matches!(told, Told::Notes | Told::Plans))?;
     let end = end_over(alloc, case, host, rows, options);
     put_end(alloc, out, &end);
-    put_beside(alloc, out, &end, told);
-    mem::drop(end);
-    put_asked(alloc, out, host, told);
-    Ok(())
-}
-
-fn put_beside(alloc: Global, out: &mut AnswerText, end: &Result<Report, RunFault>, told: Told) {
-    match end {
+    match &end {
         Ok(report) => put_report(alloc, out, report, told),
         Err(_) if matches!(told, Told::Notes) => out.put(",\"notes\":[]"),
         Err(_) => (),
     }
+    mem::drop(end);
+    put_asked(alloc, out, host, told);
+    Ok(())
 }
 
 fn put_report(alloc: Global, out: &mut AnswerText, report: &Report, told: Told) {
@@ -301,15 +297,11 @@ fn put_key(rows: &mut MemoryRecord, key: &Text, out: &mut AnswerText) {
     out.put_quoted(key.as_str());
     out.put(",");
     let found = rows.find(key);
-    put_archived(out, &found);
-    mem::drop(found);
-    out.put("]");
-}
-
-fn put_archived(out: &mut AnswerText, found: &Result<Option<Kept>, RecordError>) {
-    match found {
+    match &found {
         Ok(Some(row)) => out.put_flag(row.archived),
         Err(RecordError::OutOfMemory) => out.fail(RowFault::OutOfMemory),
         _ => out.fail(RowFault::BadArgument),
     }
+    mem::drop(found);
+    out.put("]");
 }

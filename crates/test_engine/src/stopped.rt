@@ -106,7 +106,10 @@ fn put_seen(out: &mut AnswerText, seen: Seen) {
 /// The files on which the run starts: those of a record after the run `before`, where there is one.
 fn start_of(alloc: Global, row: &Row, case: &Case) -> Result<Disks, RowFault> {
     let mut store = opened(alloc, Disks::fresh(alloc))?;
-    let before = run_before(alloc, row, case, &mut store);
+    let before = match row.find("before") {
+        None => Ok(()),
+        Some(_) => whole_run(alloc, row, case, "before", &mut store),
+    };
     let disks = store.close();
     match before {
         Ok(()) => Ok(disks),
@@ -125,13 +128,6 @@ fn opened(alloc: Global, disks: Disks) -> Result<Store, RowFault> {
             Err(RowFault::BadArgument)
         }
     }
-}
-
-fn run_before(alloc: Global, row: &Row, case: &Case, store: &mut Store) -> Result<(), RowFault> {
-    if row.find("before").is_none() {
-        return Ok(());
-    }
-    whole_run(alloc, row, case, "before", store)
 }
 
 /// A run that nothing stops, and in which nothing is refused.
@@ -232,7 +228,7 @@ fn seen_on(trial: &Trial<'_>, seen: Seen, stops_log: bool) -> Result<Seen, RowFa
 
 fn seen_with(seen: Seen, came: Came, left: Left) -> Seen {
     Seen {
-        find: seen.find || came.has_refused_find(),
+        find: seen.find || came.refused_find,
         put: seen.put || came.has_refused_put_alone(),
         touch: seen.touch || came.has_refused_touch_alone(),
         other: seen.other.saturating_add(u64::from(!came.ends_as_told)),
@@ -261,15 +257,12 @@ fn stopped(trial: &Trial<'_>, stop: Stop) -> Result<Option<(Came, Left)>, RowFau
 /// Runs over the record in the files, where it opens, and gives them back.
 fn run_on(trial: &Trial<'_>, disks: Disks) -> (Result<Came, RowFault>, Disks) {
     match disks.open(trial.alloc, None) {
-        Ok(store) => run_over(trial, store),
+        Ok(mut store) => {
+            let came = came_by(trial.alloc, trial.row, trial.case, "script", &mut store);
+            (came, store.stop())
+        }
         Err((_fault, left)) => (Ok(UNASKED), left),
     }
-}
-
-fn run_over(trial: &Trial<'_>, store: Store) -> (Result<Came, RowFault>, Disks) {
-    let mut store = store;
-    let came = came_by(trial.alloc, trial.row, trial.case, "script", &mut store);
-    (came, store.stop())
 }
 
 /// The rows of the record in a copy of the files that nothing stops.

@@ -7,7 +7,7 @@ use plain_data::{Items, Keyed};
 use staging::{Found, Measure};
 use std::alloc::{AllocError, Global};
 use std::mem;
-use std::time::Instant;
+use test_records::bench::{micros_since, now};
 use test_rows::{Row, RowFault};
 
 /// The jobs of a row's run, the microseconds of the machine for all of it, and those of its unfolding alone.
@@ -19,26 +19,13 @@ pub fn answer(rt: &HostRuntime, row: &Row) -> Result<String, RowFault> {
 }
 
 fn times_of(rt: &HostRuntime, row: &Row, case: &Case) -> Result<String, RowFault> {
-    let run = micros_of_run(rt, row, case)?;
-    let (jobs, unfolding) = micros_of_unfolding(rt, case)?;
-    Ok(format!(in rt.alloc(); "{{\"jobs\":{jobs},\"run\":{run},\"unfolding\":{unfolding}}}")?)
-}
-
-fn micros_of_run(rt: &HostRuntime, row: &Row, case: &Case) -> Result<u128, RowFault> {
     let start = now(rt)?;
     run_through(rt.alloc(), row, case)?;
-    micros_since(rt, start)
-}
-
-fn now(rt: &HostRuntime) -> Result<Instant, RowFault> {
-    Instant::now(rt).map_err(|_error| RowFault::BadArgument)
-}
-
-fn micros_since(rt: &HostRuntime, start: Instant) -> Result<u128, RowFault> {
-    match start.elapsed(rt) {
-        Ok(time) => Ok(time.as_micros()),
-        Err(_) => Err(RowFault::BadArgument),
-    }
+    let run = micros_since(rt, start)?;
+    let start = now(rt)?;
+    let jobs = jobs_unfolded(rt.alloc(), case)?;
+    let unfolding = micros_since(rt, start)?;
+    Ok(format!(in rt.alloc(); "{{\"jobs\":{jobs},\"run\":{run},\"unfolding\":{unfolding}}}")?)
 }
 
 /// Runs a process whose jobs all succeed.
@@ -49,13 +36,7 @@ fn run_through(alloc: Global, row: &Row, case: &Case) -> Result<(), RowFault> {
     driven
 }
 
-/// How many jobs come to be known, and the microseconds until all are learned.
-fn micros_of_unfolding(rt: &HostRuntime, case: &Case) -> Result<(usize, u128), RowFault> {
-    let start = now(rt)?;
-    let jobs = jobs_unfolded(rt.alloc(), case)?;
-    Ok((jobs, micros_since(rt, start)?))
-}
-
+/// How many jobs come to be known until all are learned.
 fn jobs_unfolded(alloc: Global, case: &Case) -> Result<usize, RowFault> {
     let measures = all_there(alloc, case)?;
     let process = case.process.as_process();
@@ -115,16 +96,10 @@ fn outputs_at(alloc: Global, place: &JobPlace) -> Result<Keyed<Value>, AllocErro
 fn outputs_of(alloc: Global, all: &[Found]) -> Result<Keyed<Value>, AllocError> {
     let mut outputs = Keyed::new(alloc);
     for left in all {
-        add_output(alloc, &mut outputs, left)?;
+        let name = left.name.copied(alloc)?;
+        mem::drop(outputs.insert(name, file_of(alloc, left)?)?);
     }
     Ok(outputs)
-}
-
-fn add_output(alloc: Global, outputs: &mut Keyed<Value>, left: &Found) -> Result<(), AllocError> {
-    let name = left.name.copied(alloc)?;
-    let file = file_of(alloc, left)?;
-    mem::drop(outputs.insert(name, file)?);
-    Ok(())
 }
 
 fn file_of(alloc: Global, left: &Found) -> Result<Value, AllocError> {

@@ -15,7 +15,7 @@ use std::{fs, mem};
 use test_hosts::answers::put_numbers;
 use test_hosts::failing::Failing;
 use test_hosts::lost::Loss;
-use test_hosts::machine::listing::{put_fault, put_measure};
+use test_hosts::machine::paths::put_measured;
 use test_hosts::machine::place::{below, done, machine};
 use test_rows::{AnswerText, Row, RowFault};
 
@@ -208,7 +208,10 @@ fn put_words(out: &mut AnswerText, end: &Result<Report, RunFault>) {
         Ok(report) => put_report(out, report),
         Err(RunFault::Host(fault, running)) => {
             out.put(fault.code());
-            put_running(out, running.as_slice());
+            if !running.is_empty() {
+                out.put(" ");
+                put_numbers(out, running.as_slice());
+            }
         }
         Err(RunFault::Record(refusal)) => out.put(refusal.code()),
         Err(RunFault::Mismatch(_)) => out.put("Mismatch"),
@@ -217,23 +220,12 @@ fn put_words(out: &mut AnswerText, end: &Result<Report, RunFault>) {
     }
 }
 
-fn put_running(out: &mut AnswerText, running: &[u64]) {
-    if !running.is_empty() {
-        out.put(" ");
-        put_numbers(out, running);
-    }
-}
-
-fn outcome_name(outcome: &Outcome) -> &'static str {
-    match outcome {
+fn put_report(out: &mut AnswerText, report: &Report) {
+    out.put(match &report.outcome {
         Outcome::Success(_) => "success",
         Outcome::PermanentFail(_, _) => "permanentFail",
         Outcome::TemporaryFail(_) => "temporaryFail",
-    }
-}
-
-fn put_report(out: &mut AnswerText, report: &Report) {
-    out.put(outcome_name(&report.outcome));
+    });
     for note in report.notes.as_slice() {
         let (call, code) = failure_of(&note.kind);
         out.put(", ");
@@ -247,10 +239,7 @@ fn found_at(trial: &Trial<'_>, leg: &Leg<'_>) -> Result<String, RowFault> {
     let outdir = below(trial.rt.alloc(), trial.folder, leg.outdir)?;
     let mut host = machine(trial.rt, trial.folder)?;
     let mut out = AnswerText::new(trial.rt.alloc());
-    match host.measure(&outdir) {
-        Ok(measure) => put_measure(&mut out, &measure),
-        Err(error) => put_fault(&mut out, error),
-    }
+    put_measured(&mut host, &outdir, &mut out);
     mem::drop(host);
     out.finish()
 }

@@ -1,5 +1,5 @@
 //! Pieces of answers that several rows have.
-use test_rows::{AnswerText, RowFault};
+use test_rows::AnswerText;
 
 /// Writes a text that was written piece by piece, as JSON.
 pub fn put_text(out: &mut AnswerText, text: AnswerText) {

@@ -37,7 +37,11 @@ fn put_answers(
     out.put("{\"answers\":[");
     for call in row.list("calls")? {
         out.put_comma();
-        put_answer_to(alloc, row, call.as_str().unwrap_or("?"), host, held, out)?;
+        let call = call.as_str().unwrap_or("?");
+        match call {
+            "collect" => put_collected(host, out)?,
+            _ => put_call(alloc, row, call, host, held, out)?,
+        }
     }
     out.put("],\"asked\":");
     put_requests(alloc, out, host.log());
@@ -47,20 +51,6 @@ fn put_answers(
     out.put_natural(host.script_left().len() as u64);
     out.put("}");
     Ok(())
-}
-
-fn put_answer_to(
-    alloc: Global,
-    row: &Row,
-    call: &str,
-    host: &mut Scripted,
-    held: &mut Vec<Ticket>,
-    out: &mut AnswerText,
-) -> Result<(), RowFault> {
-    match call {
-        "collect" => put_collected(host, out),
-        _ => put_call(alloc, row, call, host, held, out),
-    }
 }
 
 /// Writes what a host answers to a call that takes no child in flight.

@@ -3,7 +3,7 @@ pub mod child;
 pub(crate) mod children;
 mod copies;
 pub mod listing;
-pub(crate) mod paths;
+pub mod paths;
 pub mod place;
 pub mod shell;
 
@@ -24,11 +24,6 @@ pub fn told_of(rt: &HostRuntime, row: &Row) -> Result<String, RowFault> {
 
 fn told_in(rt: &HostRuntime, row: &Row, place: &str) -> Result<String, RowFault> {
     prepared(rt, row, place)?;
-    told_by_machine(rt, row, place)
-}
-
-/// The answer of a call of one machine.
-fn told_by_machine(rt: &HostRuntime, row: &Row, place: &str) -> Result<String, RowFault> {
     let mut host = machine_of(rt, row, place)?;
     let mut out = AnswerText::new(rt.alloc());
     if let Err(fault) = put_told(rt, &mut host, row, place, &mut out) {

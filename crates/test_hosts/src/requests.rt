@@ -11,15 +11,11 @@ pub fn put_requests(alloc: Global, out: &mut AnswerText, log: &[Entry]) {
     out.put("[");
     for entry in log {
         out.put_comma();
-        put_request(alloc, out, &entry.request);
+        let mut text = AnswerText::new(alloc);
+        put_words(&mut text, &entry.request);
+        put_text(out, text);
     }
     out.put("]");
-}
-
-fn put_request(alloc: Global, out: &mut AnswerText, request: &HostRequest) {
-    let mut text = AnswerText::new(alloc);
-    put_words(&mut text, request);
-    put_text(out, text);
 }
 
 fn put_words(out: &mut AnswerText, request: &HostRequest) {

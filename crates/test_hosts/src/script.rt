@@ -4,7 +4,7 @@ use plain_data::{Items, Text};
 use proc_host::{ChildEnd, Reply, Scripted};
 use serde_json::Value as Json;
 use staging::{Found, Measure};
-use std::alloc::{AllocError, Global};
+use std::alloc::Global;
 use test_rows::{Row, RowFault};
 
 /// A host that answers from the row's script of this name; it collects once `least_started` children were started, where the row says so.
@@ -47,7 +47,7 @@ fn reply_of(alloc: Global, json: &Json) -> Result<Reply, RowFault> {
     }
     if let Some(head) = json.get("head") {
         let head = head.as_str().ok_or(RowFault::BadArgument)?;
-        return Ok(Reply::Head(bytes_of(alloc, head)?));
+        return Ok(Reply::Head(Items::from_vec(head.as_bytes().to_vec(alloc)?)));
     }
     bare_reply(json).ok_or(RowFault::BadArgument)
 }
@@ -63,14 +63,6 @@ fn measure_of(alloc: Global, json: &Json) -> Result<Measure, RowFault> {
     let size = number_at(json, 0)?;
     let sum = text_at(alloc, json, 1)?;
     Ok(Measure::File { size, sum })
-}
-
-fn bytes_of(alloc: Global, text: &str) -> Result<Items<u8>, AllocError> {
-    let mut bytes = Items::new(alloc);
-    for byte in text.as_bytes() {
-        bytes.push(*byte)?;
-    }
-    Ok(bytes)
 }
 
 fn bare_reply(json: &Json) -> Option<Reply> {

@@ -17,7 +17,10 @@ pub(crate) fn begun<D: Disk + Drop>(
     budget: Option<u64>,
 ) -> Result<JobRecord<FileStore<D>>, (RecordFault, Files<D>)> {
     match connected(alloc, files) {
-        Ok(conn) => recorded(alloc, conn, budget),
+        Ok(conn) => match opened(alloc, conn, budget) {
+            Ok(record) => Ok(record),
+            Err((fault, conn)) => Err((fault, conn.into_store().close())),
+        },
         Err((error, files)) => Err((RecordFault::Store(error), files)),
     }
 }
@@ -32,17 +35,6 @@ fn connected<D: Disk + Drop>(
     match Connection::open_files(alloc, files, options()) {
         Ok(conn) => Ok(conn),
         Err((error, left)) => Err((error, left.into_files())),
-    }
-}
-
-fn recorded<D: Disk + Drop>(
-    alloc: Global,
-    conn: Connection<FileStore<D>>,
-    budget: Option<u64>,
-) -> Result<JobRecord<FileStore<D>>, (RecordFault, Files<D>)> {
-    match opened(alloc, conn, budget) {
-        Ok(record) => Ok(record),
-        Err((fault, conn)) => Err((fault, conn.into_store().close())),
     }
 }
 

@@ -3,7 +3,7 @@ ghost use Rattle.std.specs.Prelude.{◌≡◌, ◌++◌, IfOk, IfSome};
 ghost use Rattle.job_rows.specs.declared.log.Command.TheVariants as command;
 ghost use Rattle.job_rows.specs.Log.{entries_of, told_of};
 
-use crate::rows::{put_comma, put_row, put_rows};
+use crate::rows::{put_row, put_rows};
 use job_record::{JobRecord, RecordFault};
 use job_rows::{Command, Entry, Record, RecordError, Row as RecordRow};
 use plain_data::{Items, Text};
@@ -60,8 +60,8 @@ fn put_lost(out: &mut AnswerText, lost: Result<Items<Text>, RecordFault>) {
 /// Writes the keys that are without their archive by a put.
 pub(crate) fn put_keys(out: &mut AnswerText, keys: &[Text]) {
     out.put("[");
-    for (at, key) in keys.iter().enumerate() {
-        put_comma(out, at);
+    for key in keys {
+        out.put_comma();
         out.put_quoted(key.as_str());
     }
     out.put("]");
@@ -92,8 +92,8 @@ fn put_listed(alloc: Global, out: &mut AnswerText, listed: Result<Items<RecordRo
 /// Writes the lines of a log.
 pub(crate) fn put_log(out: &mut AnswerText, entries: &[Entry]) {
     out.put("[");
-    for (at, entry) in entries.iter().enumerate() {
-        put_comma(out, at);
+    for entry in entries {
+        out.put_comma();
         put_entry(out, entry);
     }
     out.put("]");
@@ -181,14 +181,9 @@ pub(crate) fn opened<S: Alter + Drop>(
 
 /// Runs statements, or writes the first column of each row that a query shows.
 pub(crate) fn ran<S: Alter>(conn: &mut Connection<S>, sql: &str, out: &mut AnswerText) {
-    if !sql.starts_with("SELECT") {
-        return put_done(out, conn.execute_batch(sql));
-    }
-    put_shown(out, conn.query_all(sql, &[]));
-}
-
-fn put_done(out: &mut AnswerText, done: Result<(), Error>) {
-    if done.is_err() {
+    if sql.starts_with("SELECT") {
+        put_shown(out, conn.query_all(sql, &[]));
+    } else if conn.execute_batch(sql).is_err() {
         out.put("?");
     }
 }
@@ -203,17 +198,13 @@ fn put_shown(out: &mut AnswerText, shown: Result<Vec<Columns>, Error>) {
 
 fn put_texts(out: &mut AnswerText, rows: &[Columns]) {
     out.put("[");
-    for (at, row) in rows.iter().enumerate() {
-        put_comma(out, at);
-        put_first(out, row);
+    for row in rows {
+        out.put_comma();
+        let text: Result<String, Error> = row.get(0);
+        match text {
+            Ok(text) => out.put_quoted(text.as_str()),
+            Err(_) => out.put("?"),
+        }
     }
     out.put("]");
-}
-
-fn put_first(out: &mut AnswerText, row: &Columns) {
-    let text: Result<String, Error> = row.get(0);
-    match text {
-        Ok(text) => out.put_quoted(text.as_str()),
-        Err(_) => out.put("?"),
-    }
 }

@@ -57,12 +57,19 @@ fn on_connection<S: Alter + Drop>(
     start: Instant,
 ) -> Result<String, RowFault> {
     let connect = micros_since(rt, start);
-    match opened(rt.alloc(), conn, None) {
-        Ok(mut record) => {
-            let times = times_of(rt, &mut record, counts, start, connect);
-            mem::drop(record);
-            times_text(rt.alloc(), times?)
-        }
+    let mut record = record_of(rt.alloc(), conn, None)?;
+    let times = times_of(rt, &mut record, counts, start, connect);
+    mem::drop(record);
+    times_text(rt.alloc(), times?)
+}
+
+fn record_of<S: Alter + Drop>(
+    alloc: Global,
+    conn: Connection<S>,
+    budget: Option<u64>,
+) -> Result<JobRecord<S>, RowFault> {
+    match opened(alloc, conn, budget) {
+        Ok(record) => Ok(record),
         Err((fault, conn)) => {
             mem::drop(conn);
             Err(row_fault(fault))
@@ -100,12 +107,13 @@ fn times_text(alloc: Global, times: Times) -> Result<String, RowFault> {
     )?)
 }
 
-// A clock that can't be read counts as a bad argument, as a file that can't be written does.
-fn now(rt: &HostRuntime) -> Result<Instant, RowFault> {
+/// The time now. A clock that can't be read counts as a bad argument, as a file that can't be written does.
+pub fn now(rt: &HostRuntime) -> Result<Instant, RowFault> {
     Instant::now(rt).map_err(|_unread| RowFault::BadArgument)
 }
 
-fn micros_since(rt: &HostRuntime, start: Instant) -> Result<u128, RowFault> {
+/// The microseconds that have passed since then.
+pub fn micros_since(rt: &HostRuntime, start: Instant) -> Result<u128, RowFault> {
     match start.elapsed(rt) {
         Ok(time) => Ok(time.as_micros()),
         Err(_) => Err(RowFault::BadArgument),
@@ -220,17 +228,10 @@ fn on_archives<S: Alter + Drop>(
     counts: Counts,
     budget: Option<u64>,
 ) -> Result<String, RowFault> {
-    match opened(rt.alloc(), conn, budget) {
-        Ok(mut record) => {
-            let times = archive_times(rt, &mut record, counts);
-            mem::drop(record);
-            times
-        }
-        Err((fault, conn)) => {
-            mem::drop(conn);
-            Err(row_fault(fault))
-        }
-    }
+    let mut record = record_of(rt.alloc(), conn, budget)?;
+    let times = archive_times(rt, &mut record, counts);
+    mem::drop(record);
+    times
 }
 
 fn archive_times<S: Alter>(

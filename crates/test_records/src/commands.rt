@@ -1,7 +1,7 @@
 //! Commands on a record.
 
 use crate::asks::Ask;
-use crate::rows::{budget_of, put_comma, row_in, text_of};
+use crate::rows::{budget_of, row_in, text_of};
 use crate::store::{Disks, Store};
 use serde_json::Value as Json;
 use std::alloc::Global;
@@ -32,10 +32,21 @@ pub(crate) fn run_all(
     }
 }
 
+/// The files of a record after the row's commands of this name, or of a database that the row's SQL made.
+pub(crate) fn disks_of(alloc: Global, row: &Row, name: &str, budget: Option<u64>) -> Disks {
+    let mut answers = AnswerText::new(alloc);
+    let disks = match row.list(name) {
+        Ok(commands) => run_all(alloc, commands, budget, &mut answers),
+        Err(_) => Disks::fresh(alloc).run(alloc, row.text("sql").unwrap_or(""), &mut answers),
+    };
+    mem::drop(answers);
+    disks
+}
+
 fn run_on(alloc: Global, store: Store, commands: &[Json], out: &mut AnswerText) -> Disks {
     let mut store = store;
-    for (at, command) in commands.iter().enumerate() {
-        put_comma(out, at);
+    for command in commands {
+        out.put_comma();
         if let Some(budget) = command.get("reopen") {
             match reopened(alloc, store, budget.as_u64(), out) {
                 Ok(again) => store = again,

@@ -1,8 +1,7 @@
 //! What `record` says of a file.
 
-use crate::commands::run_all;
+use crate::commands::disks_of;
 use crate::opening::bytes_of;
-use crate::store::Disks;
 use record_program::main_run;
 use serde_json::Value as Json;
 use std::alloc::Global;
@@ -81,25 +80,13 @@ fn is_ready(rt: &HostRuntime, row: &Row) -> bool {
 fn made(alloc: Global, row: &Row) -> Result<Vec<u8>, RowFault> {
     match row.text("text") {
         Ok(text) => bytes_of(alloc, text, row.natural("times")?),
-        Err(_) => held_by(alloc, disks_of(alloc, row)),
+        Err(_) => {
+            let disks = disks_of(alloc, row, "commands", None);
+            let bytes = disks.bytes().to_vec(alloc);
+            mem::drop(disks);
+            Ok(bytes?)
+        }
     }
-}
-
-fn held_by(alloc: Global, disks: Disks) -> Result<Vec<u8>, RowFault> {
-    let bytes = disks.bytes().to_vec(alloc);
-    mem::drop(disks);
-    Ok(bytes?)
-}
-
-// A record after commands, or a database that SQL made.
-fn disks_of(alloc: Global, row: &Row) -> Disks {
-    let mut answers = AnswerText::new(alloc);
-    let disks = match row.list("commands") {
-        Ok(commands) => run_all(alloc, commands, None, &mut answers),
-        Err(_) => Disks::fresh(alloc).run(alloc, row.text("sql").unwrap_or(""), &mut answers),
-    };
-    mem::drop(answers);
-    disks
 }
 
 fn told(rt: &HostRuntime, row: &Row, path: &str, bytes: &[u8]) -> Result<String, RowFault> {

@@ -2,7 +2,6 @@
 
 use crate::asks::Ask;
 use crate::commands::{put, run};
-use crate::rows::put_comma;
 use crate::store::{Disks, Store};
 use serde_json::Value as Json;
 use std::alloc::Global;
@@ -22,15 +21,10 @@ pub(crate) fn number_at(place: u64, count: u64) -> u64 {
 pub(crate) fn filled(alloc: Global, row: &Row) -> Result<String, RowFault> {
     let count = row.natural("rows")?;
     let left = count - count.div_ceil(3);
-    let same = is_listed(alloc, count)?;
-    Ok(format!(in alloc; "[{left},{same}]")?)
-}
-
-// Whether the record lists just these after all that.
-fn is_listed(alloc: Global, count: u64) -> Result<bool, RowFault> {
     let found = listed(alloc, count)?;
     let wanted = others_text(alloc, count)?;
-    Ok(found.as_str() == wanted.as_str())
+    let same = found.as_str() == wanted.as_str();
+    Ok(format!(in alloc; "[{left},{same}]")?)
 }
 
 fn listed(alloc: Global, count: u64) -> Result<String, RowFault> {
@@ -103,17 +97,13 @@ fn others_text(alloc: Global, count: u64) -> Result<String, RowFault> {
     text.put("[");
     for at in 0..count {
         if at % 3 != 0 {
-            put_comma(&mut text, usize::from(at > 1));
-            put_text(&mut text, row_text(alloc, at));
+            text.put_comma();
+            match row_text(alloc, at) {
+                Ok(row) => text.put(row.as_str()),
+                Err(_) => text.put("?"),
+            }
         }
     }
     text.put("]");
     text.finish()
-}
-
-fn put_text(out: &mut AnswerText, text: Result<String, RowFault>) {
-    match text {
-        Ok(text) => out.put(text.as_str()),
-        Err(_) => out.put("?"),
-    }
 }

@@ -92,9 +92,12 @@ fn end_in(alloc: Global, start: &Disks, stop: Stop, store: Store, sum: &str) -> 
         return None;
     }
     if shows_rows {
-        return Some(Ended::WithRows);
+        Some(Ended::WithRows)
+    } else if forgets_alone(alloc, start, stop, sum) {
+        Some(Ended::AsClosing)
+    } else {
+        Some(Ended::AsForgetting)
     }
-    Some(without_close(alloc, start, stop, sum))
 }
 
 fn has_calls_left(files: Option<Disks>) -> bool {
@@ -104,15 +107,7 @@ fn has_calls_left(files: Option<Disks>) -> bool {
     }
 }
 
-// What the same forgetting shows if the record is let go and not closed.
-fn without_close(alloc: Global, start: &Disks, stop: Stop, sum: &str) -> Ended {
-    if forgets_alone(alloc, start, stop, sum) {
-        Ended::AsClosing
-    } else {
-        Ended::AsForgetting
-    }
-}
-
+// Whether the same forgetting ends with rows if the record is let go and not closed.
 fn forgets_alone(alloc: Global, start: &Disks, stop: Stop, sum: &str) -> bool {
     let Some(disks) = start.copied(alloc, stop) else {
         return false;

@@ -2,10 +2,9 @@
 
 use crate::rows::fields_of;
 use cwl_process::{Process, Tool, read_unlinked};
-use cwl_value::{Value, read_value};
+use cwl_value::read_value;
 use document_table::DocumentError;
 use job_key::key_text;
-use plain_data::Keyed;
 use std::alloc::Global;
 use std::mem;
 use test_rows::{Row, RowFault, json_text};
@@ -34,15 +33,11 @@ fn answer_of(
 }
 
 fn key_of(alloc: Global, tool: &Tool, row: &Row) -> Result<String, RowFault> {
-    let inputs = inputs_of(alloc, row)?;
-    let key = key_text(alloc, tool, &inputs);
-    mem::drop(inputs);
-    Ok(key?.into_string())
-}
-
-fn inputs_of(alloc: Global, row: &Row) -> Result<Keyed<Value>, RowFault> {
     let text = json_text(alloc, row.json("inputs")?)?;
     let value = read_value(alloc, text.as_bytes());
     mem::drop(text);
-    fields_of(value)
+    let inputs = fields_of(value)?;
+    let key = key_text(alloc, tool, &inputs);
+    mem::drop(inputs);
+    Ok(key?.into_string())
 }

@@ -5,7 +5,7 @@
 
 mod any_disk;
 mod asks;
-mod bench;
+pub mod bench;
 mod commands;
 mod file;
 mod fill;

@@ -2,7 +2,7 @@
 
 use crate::asks::{Ask, put_keys, put_log};
 use crate::commands::ask_in;
-use crate::rows::{budget_of, put_comma, put_row, row_in};
+use crate::rows::{budget_of, put_row, row_in};
 use job_rows::{MemoryRecord, Record, RecordError, Row as RecordRow};
 use plain_data::{Items, Text};
 use serde_json::Value as Json;
@@ -17,7 +17,10 @@ pub(crate) fn answers(alloc: Global, row: &Row) -> Result<String, RowFault> {
     let mut out = AnswerText::new(alloc);
     out.put("[");
     for (at, command) in commands.iter().enumerate() {
-        put_comma(&mut out, at);
+        // A put of no row writes nothing, so the text doesn't tell whether a command came before.
+        if at > 0 {
+            out.put(",");
+        }
         run(alloc, &mut record, command, &mut out);
     }
     mem::drop(record);

@@ -49,23 +49,17 @@ fn answered(alloc: Global, store: Store, commands: &[Json], out: &mut AnswerText
 pub(crate) fn opened_bytes(alloc: Global, row: &Row) -> Result<String, RowFault> {
     let bytes = bytes_of(alloc, row.text("text")?, row.natural("times")?)?;
     let mut out = AnswerText::new(alloc);
-    put_opened(alloc, bytes.as_slice(), &mut out);
-    out.finish()
-}
-
-fn put_opened(alloc: Global, bytes: &[u8], out: &mut AnswerText) {
-    match Disks::of_bytes(alloc, bytes) {
-        Some(disks) => put_told(alloc, disks, bytes, out),
+    match Disks::of_bytes(alloc, bytes.as_slice()) {
+        Some(disks) => {
+            out.put("[");
+            let disks = told(alloc, disks, &[], &mut out);
+            out.put(",");
+            out.put_flag(disks.bytes() == bytes.as_slice());
+            out.put("]");
+        }
         None => out.put("?"),
     }
-}
-
-fn put_told(alloc: Global, disks: Disks, bytes: &[u8], out: &mut AnswerText) {
-    out.put("[");
-    let disks = told(alloc, disks, &[], out);
-    out.put(",");
-    out.put_flag(disks.bytes() == bytes);
-    out.put("]");
+    out.finish()
 }
 
 /// The text so many times over.

@@ -23,27 +23,15 @@ fn members_of(json: &Json) -> Option<Wanted<'_>> {
     Some(Wanted {
         key: text_of(json, "key")?,
         outputs: json.get("outputs")?,
-        files: list_of(json, "files")?,
-        cost: number_of(json, "cost")?,
-        archived: flag_of(json, "archived")?,
+        files: json.get("files")?.as_array()?.as_slice(),
+        cost: json.get("cost")?.as_u64()?,
+        archived: json.get("archived")?.as_bool()?,
     })
 }
 
 /// The text of this name in an object.
 pub(crate) fn text_of<'a>(json: &'a Json, name: &str) -> Option<&'a str> {
     json.get(name)?.as_str()
-}
-
-fn list_of<'a>(json: &'a Json, name: &str) -> Option<&'a [Json]> {
-    Some(json.get(name)?.as_array()?.as_slice())
-}
-
-fn number_of(json: &Json, name: &str) -> Option<u64> {
-    json.get(name)?.as_u64()
-}
-
-fn flag_of(json: &Json, name: &str) -> Option<bool> {
-    json.get(name)?.as_bool()
 }
 
 /// How many bytes the archives of a record may have together, if the row of the test says it.
@@ -96,15 +84,8 @@ fn found_in(alloc: Global, json: &Json) -> Result<Found, RowFault> {
         sum: text_in(alloc, json, "sum")?,
         name,
         is_dir: json.get("is_dir").and_then(|flag| flag.as_bool()) == Some(true),
-        size: size_in(json),
+        size: json.get("size").and_then(|size| size.as_u64()).unwrap_or(0),
     })
-}
-
-fn size_in(json: &Json) -> u64 {
-    match json.get("size") {
-        Some(size) => size.as_u64().unwrap_or(0),
-        None => 0,
-    }
 }
 
 fn text_in(alloc: Global, json: &Json, name: &str) -> Result<Text, RowFault> {
@@ -117,18 +98,11 @@ fn text_in(alloc: Global, json: &Json, name: &str) -> Result<Text, RowFault> {
 /// Writes the objects that tell of rows, as a list.
 pub(crate) fn put_rows(alloc: Global, out: &mut AnswerText, rows: &[Row]) {
     out.put("[");
-    for (at, row) in rows.iter().enumerate() {
-        put_comma(out, at);
+    for row in rows {
+        out.put_comma();
         put_row(alloc, out, row);
     }
     out.put("]");
-}
-
-/// Writes the comma before an item, but before the first.
-pub(crate) fn put_comma(out: &mut AnswerText, at: usize) {
-    if at > 0 {
-        out.put(",");
-    }
 }
 
 /// The object that tells of a row.
@@ -149,7 +123,10 @@ pub(crate) fn put_row(alloc: Global, out: &mut AnswerText, row: &Row) {
     out.put(",\"key\":");
     out.put_quoted(row.key.as_str());
     out.put(",\"outputs\":");
-    put_outputs(alloc, out, &row.outputs);
+    match outputs_text(alloc, &row.outputs) {
+        Ok(text) => out.put(text.as_str()),
+        Err(_) => out.put("?"),
+    }
     out.put("}");
 }
 
@@ -157,19 +134,8 @@ fn put_number(out: &mut AnswerText, number: u64) {
     out.put_whole(i64::try_from(number).unwrap_or(i64::MAX));
 }
 
-fn put_outputs(alloc: Global, out: &mut AnswerText, outputs: &Keyed<Value>) {
-    match outputs_text(alloc, outputs) {
-        Ok(text) => out.put(text.as_str()),
-        Err(_) => out.put("?"),
-    }
-}
-
 fn outputs_text(alloc: Global, outputs: &Keyed<Value>) -> Result<Text, AllocError> {
-    let fields = copy_fields(alloc, outputs)?;
-    value_text(alloc, Value::Fields(fields))
-}
-
-fn value_text(alloc: Global, value: Value) -> Result<Text, AllocError> {
+    let value = Value::Fields(copy_fields(alloc, outputs)?);
     let text = canonical_text(alloc, &value);
     mem::drop(value);
     text
@@ -177,8 +143,8 @@ fn value_text(alloc: Global, value: Value) -> Result<Text, AllocError> {
 
 fn put_files(out: &mut AnswerText, files: &[Found]) {
     out.put("[");
-    for (at, found) in files.iter().enumerate() {
-        put_comma(out, at);
+    for found in files {
+        out.put_comma();
         put_found(out, found);
     }
     out.put("]");

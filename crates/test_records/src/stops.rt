@@ -1,7 +1,7 @@
 //! A stop at each call of a file, while a command runs.
 
 use crate::asks::Ask;
-use crate::commands::{run, run_all};
+use crate::commands::{disks_of, run};
 use crate::rows::budget_of;
 use crate::store::{Disks, NEVER, Stop, Store};
 use serde_json::Value as Json;
@@ -67,17 +67,6 @@ fn seen_text(alloc: Global, seen: Seen) -> Result<String, RowFault> {
     Ok(format!(in alloc; "{{\"before\":{before},\"after\":{after},\"other\":{other}}}")?)
 }
 
-// The files on which the command starts.
-fn start_of(alloc: Global, row: &Row, budget: Option<u64>) -> Disks {
-    let mut answers = AnswerText::new(alloc);
-    let disks = match row.list("before") {
-        Ok(commands) => run_all(alloc, commands, budget, &mut answers),
-        Err(_) => Disks::fresh(alloc).run(alloc, row.text("sql").unwrap_or(""), &mut answers),
-    };
-    mem::drop(answers);
-    disks
-}
-
 fn trial_of(
     alloc: Global,
     row: &Row,
@@ -85,7 +74,7 @@ fn trial_of(
     power_cut: bool,
 ) -> Result<Trial<'_>, RowFault> {
     let command = row.find("command");
-    let start = start_of(alloc, row, budget);
+    let start = disks_of(alloc, row, "before", budget);
     let before = held_after(alloc, &start, budget, None)?;
     let after = held_after(alloc, &start, budget, command)?;
     Ok(Trial {

@@ -69,35 +69,20 @@ impl Stop {
 impl Disks {
     /// Two empty files.
     pub fn fresh(alloc: Global) -> Disks {
-        Disks {
-            files: Files {
-                log: Fuse::new(Memory::new(alloc), NEVER.log),
-                db: Fuse::new(Memory::new(alloc), NEVER.db),
-            },
-        }
+        fused(Memory::new(alloc), Memory::new(alloc), NEVER)
     }
 
     /// An empty log, and a database file of these bytes.
     pub(crate) fn of_bytes(alloc: Global, bytes: &[u8]) -> Option<Disks> {
         let db = written(alloc, bytes)?;
-        Some(Disks {
-            files: Files {
-                log: Fuse::new(Memory::new(alloc), NEVER.log),
-                db: Fuse::new(db, NEVER.db),
-            },
-        })
+        Some(fused(Memory::new(alloc), db, NEVER))
     }
 
     /// A copy of both, all of it on the disk, which stops after so many calls.
     pub fn copied(&self, alloc: Global, stop: Stop) -> Option<Disks> {
         let log = written(alloc, self.files.log.inner().bytes())?;
         let db = written(alloc, self.files.db.inner().bytes())?;
-        Some(Disks {
-            files: Files {
-                log: Fuse::new(log, stop.log),
-                db: Fuse::new(db, stop.db),
-            },
-        })
+        Some(fused(log, db, stop))
     }
 
     /// The bytes of the database file.
@@ -204,6 +189,16 @@ impl Record for Store {
 
     fn drop_archive(&mut self, key: &Text) -> Result<(), RecordError> {
         dropped(&mut self.record, key)
+    }
+}
+
+// These two files, each of which stops after so many calls.
+fn fused(log: Memory, db: Memory, stop: Stop) -> Disks {
+    Disks {
+        files: Files {
+            log: Fuse::new(log, stop.log),
+            db: Fuse::new(db, stop.db),
+        },
     }
 }
 

@@ -49,20 +49,10 @@ fn location(alloc: Global, row: &Row) -> Result<String, RowFault> {
 }
 
 fn resolved(alloc: Global, row: &Row) -> Result<String, RowFault> {
-    let found = resolved_value(alloc, row)?;
-    let answer = shown(alloc, &found);
-    drop(found);
-    answer
-}
-
-fn resolved_value(alloc: Global, row: &Row) -> Result<Result<Value, FileError>, RowFault> {
     let base = base(alloc)?;
     let value = value_of(alloc, row, "value")?;
-    Ok(resolve(alloc, value, &base))
-}
-
-fn shown(alloc: Global, found: &Result<Value, FileError>) -> Result<String, RowFault> {
-    match found {
+    let found = resolve(alloc, value, &base);
+    match &found {
         Ok(value) => listed(alloc, value),
         Err(error) => coded(alloc, code_of(error)),
     }
@@ -77,16 +67,12 @@ pub(crate) fn code_of(error: &FileError) -> &'static str {
 
 // The path and the name of each File of a list.
 fn listed(alloc: Global, value: &Value) -> Result<String, RowFault> {
-    match value {
-        Value::List(items) => files_text(alloc, items.as_slice()),
-        _ => Err(RowFault::BadArgument),
-    }
-}
-
-fn files_text(alloc: Global, values: &[Value]) -> Result<String, RowFault> {
+    let Value::List(items) = value else {
+        return Err(RowFault::BadArgument);
+    };
     let mut text = String::new(alloc);
-    for value in values {
-        push_file(alloc, &mut text, value)?;
+    for file in items.as_slice() {
+        push_file(alloc, &mut text, file)?;
     }
     Ok(format!(in alloc; "[{text}]")?)
 }

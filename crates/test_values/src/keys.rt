@@ -1,7 +1,7 @@
 //! What is kept under texts.
 use crate::values::{coded, value_in, value_of, written, written_last};
 use cwl_value::{Value, copy_fields};
-use plain_data::{Keyed, RepeatedName, Text};
+use plain_data::{Keyed, Text};
 use serde_json::Value as Json;
 use std::alloc::Global;
 use test_rows::{Row, RowFault};
@@ -18,10 +18,13 @@ pub(crate) fn answer(alloc: Global, row: &Row) -> Result<String, RowFault> {
 }
 
 fn keyed(alloc: Global, entries: &[Json]) -> Result<String, RowFault> {
-    let keyed = Keyed::from_entries(entries_of(alloc, entries)?);
-    match keyed {
+    let mut list = Vec::new(alloc);
+    for entry in entries {
+        list.push(entry_of(alloc, entry)?)?;
+    }
+    match Keyed::from_entries(list) {
         Ok(fields) => fields_text(alloc, fields),
-        Err(refused) => refused_text(alloc, &refused),
+        Err(refused) => Ok(format!(in alloc; "{refused}")?),
     }
 }
 
@@ -29,19 +32,7 @@ fn fields_text(alloc: Global, fields: Keyed<Value>) -> Result<String, RowFault> 
     written_last(alloc, Value::Fields(fields))
 }
 
-fn refused_text(alloc: Global, refused: &RepeatedName) -> Result<String, RowFault> {
-    Ok(format!(in alloc; "{refused}")?)
-}
-
 // Each entry is a name and a value.
-fn entries_of(alloc: Global, entries: &[Json]) -> Result<Vec<(Text, Value)>, RowFault> {
-    let mut list = Vec::new(alloc);
-    for entry in entries {
-        list.push(entry_of(alloc, entry)?)?;
-    }
-    Ok(list)
-}
-
 fn entry_of(alloc: Global, entry: &Json) -> Result<(Text, Value), RowFault> {
     let Some([name, value]) = entry.as_array().map(|parts| parts.as_slice()) else {
         return Err(RowFault::BadArgument);
@@ -54,10 +45,7 @@ fn inserted(alloc: Global, row: &Row) -> Result<String, RowFault> {
     let given = value_of(alloc, row, "fields")?;
     let fields = fields_of(alloc, &given);
     drop(given);
-    inserted_text(alloc, row, fields?)
-}
-
-fn inserted_text(alloc: Global, row: &Row, mut fields: Keyed<Value>) -> Result<String, RowFault> {
+    let mut fields = fields?;
     let before = put(alloc, &mut fields, row);
     let answer = pair_text(alloc, &before, fields);
     drop(before);

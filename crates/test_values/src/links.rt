@@ -1,8 +1,6 @@
-use crate::values::{coded, value_in, written, written_last};
+use crate::values::{coded, value_of, values_in, written_last};
 use cwl_process::{Merge, Pick};
-use cwl_value::Value;
 use link_values::{LinkError, merge, pick};
-use serde_json::Value as Json;
 use std::alloc::Global;
 use test_rows::{Row, RowFault};
 
@@ -31,27 +29,12 @@ fn merge_of(name: &str) -> Result<Option<Merge>, RowFault> {
     }
 }
 
-fn values_in(alloc: Global, list: &[Json]) -> Result<Vec<Value>, RowFault> {
-    let mut values = Vec::new(alloc);
-    for json in list {
-        values.push(value_in(alloc, json)?)?;
-    }
-    Ok(values)
-}
-
 fn picked(alloc: Global, row: &Row) -> Result<String, RowFault> {
     let method = pick_of(row.text("method")?)?;
-    let value = value_in(alloc, row.json("value")?)?;
-    let found = pick(alloc, method, value);
-    let answer = picked_text(alloc, &found);
-    drop(found);
-    answer
-}
-
-fn picked_text(alloc: Global, found: &Result<Value, LinkError>) -> Result<String, RowFault> {
-    match found {
-        Ok(value) => written(alloc, value),
-        Err(error) => coded(alloc, code_of(error)),
+    let value = value_of(alloc, row, "value")?;
+    match pick(alloc, method, value) {
+        Ok(value) => written_last(alloc, value),
+        Err(error) => coded(alloc, code_of(&error)),
     }
 }
 

@@ -24,13 +24,8 @@ fn copied(alloc: Global, steps: &[Json], name: &str) -> Result<String, RowFault>
     let place = Place::Made(job_of(alloc, steps)?, name);
     let copy = place.clone_in(alloc);
     drop(place);
-    shown_last(alloc, copy?)
-}
-
-fn shown_last(alloc: Global, place: Place) -> Result<String, RowFault> {
-    let answer = shown(alloc, &place);
-    drop(place);
-    answer
+    let copy = copy?;
+    shown(alloc, &copy)
 }
 
 fn shown(alloc: Global, place: &Place) -> Result<String, RowFault> {

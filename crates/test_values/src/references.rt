@@ -1,4 +1,4 @@
-use crate::values::{coded, value_of, written};
+use crate::values::{coded, value_of, written_last};
 use cwl_value::Value;
 use param_refs::{Context, RefError, Template};
 use plain_data::{Items, Keyed};
@@ -40,15 +40,8 @@ fn evaluated(alloc: Global, row: &Row, given: &Items<Value>) -> Result<String, R
         runtime: row.find("runtime").map(|_given| runtime),
         own,
     };
-    let found = value_in(alloc, row.text("text")?, &context);
-    let answer = answer_text(alloc, &found);
-    drop(found);
-    answer
-}
-
-fn answer_text(alloc: Global, found: &Result<Value, RefError>) -> Result<String, RowFault> {
-    match found {
-        Ok(value) => written(alloc, value),
+    match value_in(alloc, row.text("text")?, &context) {
+        Ok(value) => written_last(alloc, value),
         Err(RefError::Refused(fault)) => coded(alloc, fault.code()),
         Err(RefError::OutOfMemory) => coded(alloc, "memory"),
     }

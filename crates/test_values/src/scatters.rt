@@ -2,7 +2,7 @@ ghost use Rattle.std.specs.Prelude.{◌≡◌, ◌≢◌, ◌<◌, [], length, I
 ghost use Rattle.scatter_shape.specs.Tuples.{tuples_of, IsTaken};
 
 use crate::places::numbers_of;
-use crate::values::{coded, value_in, written_last};
+use crate::values::{coded, value_in, values_in, written_last};
 use cwl_value::Value;
 use plain_data::Items;
 use scatter_shape::{Gathering, Method, ScatterError, Shape, gather, jobs_of, lengths_of};
@@ -54,13 +54,9 @@ fn listed(alloc: Global, shape: &Shape) -> Result<String, RowFault>
     requires { shape.now.lengths ≢ [] }
 {
     match jobs_of(alloc, shape.method, shape.lengths.as_slice()) {
-        Ok(tuples) => listed_text(alloc, &tuples),
+        Ok(tuples) => Ok(format!(in alloc; "{tuples:?}")?),
         Err(error) => coded(alloc, code_of(&error)),
     }
-}
-
-fn listed_text(alloc: Global, tuples: &Items<Items<usize>>) -> Result<String, RowFault> {
-    Ok(format!(in alloc; "{tuples:?}")?)
 }
 
 fn counted(alloc: Global, shape: &Shape) -> Result<String, RowFault>
@@ -159,15 +155,8 @@ fn tuple_in(json: &Json, count: usize) -> Result<usize, RowFault>
 }
 
 fn measured(alloc: Global, values: &[Json]) -> Result<String, RowFault> {
-    let mut list = Vec::new(alloc);
-    for json in values {
-        list.push(value_in(alloc, json)?)?;
-    }
-    lengths(alloc, list.as_slice())
-}
-
-fn lengths(alloc: Global, values: &[Value]) -> Result<String, RowFault> {
-    match lengths_of(alloc, values) {
+    let values = values_in(alloc, values)?;
+    match lengths_of(alloc, values.as_slice()) {
         Ok(lengths) => Ok(format!(in alloc; "{lengths:?}")?),
         Err(error) => coded(alloc, code_of(&error)),
     }

@@ -56,10 +56,9 @@ fn summed(alloc: Global, pieces: Pieces<'_>) -> Result<String, RowFault> {
             let text = quoted(alloc, sum.sum.as_str())?;
             Ok(format!(in alloc; "[{text},{}]", sum.size)?)
         }
-        Err(error) => pair(alloc, code_of(&error), failed_word(reader.failed)),
+        Err(error) => {
+            let state = if reader.failed { "failed" } else { "whole" };
+            pair(alloc, code_of(&error), state)
+        }
     }
-}
-
-fn failed_word(failed: bool) -> &'static str {
-    if failed { "failed" } else { "whole" }
 }

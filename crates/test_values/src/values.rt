@@ -20,9 +20,9 @@ pub(crate) fn answer(alloc: Global, row: &Row) -> Result<String, RowFault> {
 fn written_after(alloc: Global, call: &str, value: &Value) -> Result<String, RowFault> {
     match call {
         "read_value" => written(alloc, value),
-        "clone_in" => copied(alloc, value),
+        "clone_in" => written_last(alloc, value.clone_in(alloc)?),
         "from_json" => read_again(alloc, value),
-        "erased" => without_places(alloc, value),
+        "erased" => written_last(alloc, erased(alloc, value)?),
         "shared" => shared(alloc, value),
         _ => Err(RowFault::UnknownCall),
     }
@@ -42,10 +42,6 @@ pub(crate) fn written_last(alloc: Global, value: Value) -> Result<String, RowFau
     let text = text_of(alloc, &value);
     drop(value);
     Ok(text?)
-}
-
-fn copied(alloc: Global, value: &Value) -> Result<String, RowFault> {
-    written_last(alloc, value.clone_in(alloc)?)
 }
 
 // The owners of a list that is shared and copied, and then those of the copy alone.
@@ -75,10 +71,6 @@ fn owners(value: Value) -> &'static str {
     }
 }
 
-fn without_places(alloc: Global, value: &Value) -> Result<String, RowFault> {
-    written_last(alloc, erased(alloc, value)?)
-}
-
 fn read_again(alloc: Global, value: &Value) -> Result<String, RowFault> {
     let json = to_json(alloc, value)?;
     let again = from_json(alloc, &json);
@@ -103,6 +95,15 @@ pub(crate) fn value_of(alloc: Global, row: &Row, argument: &str) -> Result<Value
 /// The value of JSON.
 pub(crate) fn value_in(alloc: Global, json: &Json) -> Result<Value, RowFault> {
     from_json(alloc, json).map_err(|_refusal| RowFault::BadArgument)
+}
+
+/// The values of a list of JSON.
+pub(crate) fn values_in(alloc: Global, list: &[Json]) -> Result<Vec<Value>, RowFault> {
+    let mut values = Vec::new(alloc);
+    for json in list {
+        values.push(value_in(alloc, json)?)?;
+    }
+    Ok(values)
 }
 
 /// A code as an answer.

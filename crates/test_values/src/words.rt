@@ -20,8 +20,6 @@ fn counted(alloc: Global, row: &Row) -> Result<String, RowFault> {
 }
 
 fn told(alloc: Global, row: &Row) -> Result<String, RowFault> {
-    match answer_to(option_in(row.text("word")?)) {
-        Some(answer) => coded(alloc, answer),
-        None => Ok(String::from_str(alloc, "null")?),
-    }
+    let answer = answer_to(option_in(row.text("word")?));
+    coded(alloc, answer.unwrap_or("null"))
 }

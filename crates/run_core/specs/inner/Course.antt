@@ -1,6 +1,6 @@
 -- What a run has come to, and what each event makes of it.
-use Rattle.std.specs.Prelude.{Bool, false, Ok, Err, ◌≡◌, ◌<◌, ◌≤◌, ℕ, ◌+◌, cond, List, [], ◌∷◌, ◌++◌, Option, Some, None, Result, map, option_map, slice_get, unwrap_or}
-use Rattle.std.specs.List.{remove, zip}
+use Rattle.std.specs.Prelude.{Bool, false, Ok, Err, ◌≡◌, ◌<◌, ◌≤◌, ℕ, ◌+◌, cond, List, [], ◌∷◌, ◌++◌, Option, Some, None, Result, option_map, slice_get, unwrap_or}
+use Rattle.std.specs.List.{remove}
 use Rattle.std.specs.Option.{option_map_or}
 use Rattle.job_graph.specs.declared.unfolding.Unfolding.{Unfolding}
 use Rattle.job_rows.specs.declared.refusal.RecordRefusal.{RecordRefusal}
@@ -71,10 +71,6 @@ pub record TellsAlike (old new : Past) : Type 0 where
 -- the place of the job of a number
 abbrev pub place_at : List Job → ℕ → JobPlace
 place_at jobs number = unwrap_or (option_map (λ job. job.place) (slice_get jobs number)) []
-
--- the children in flight: ticket and place
-abbrev pub flying_in : List Job → Past → List (ℕ × JobPlace)
-flying_in jobs past = zip past.tickets (map (λ flight. place_at jobs flight.job) past.flights)
 
 -- the number of the folders of the job at a place; 0 where it was never staged
 abbrev pub number_in : List Job → List JobState → JobPlace → ℕ

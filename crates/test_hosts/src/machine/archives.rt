@@ -111,10 +111,12 @@ pub fn put_fetched(outcome: Result<Items<Found>, HostError>, out: &mut AnswerTex
     }
 }
 
-fn text_at(list: &Json, index: usize) -> Result<&str, RowFault> {
+/// The text at an index of a list.
+pub fn text_at(list: &Json, index: usize) -> Result<&str, RowFault> {
     text_of(list.get(index).ok_or(RowFault::BadArgument)?)
 }
 
-fn text_of(json: &Json) -> Result<&str, RowFault> {
+/// The text of a value that is one.
+pub fn text_of(json: &Json) -> Result<&str, RowFault> {
     json.as_str().ok_or(RowFault::BadArgument)
 }

@@ -1,5 +1,5 @@
 use crate::machine::listing::{put_code, put_fault, put_listing};
-use crate::machine::place::{below, empty_plan};
+use crate::machine::place::{below, stage_nothing};
 use command_line::{Launch, Variable};
 use plain_data::{Items, Text};
 use proc_host::{ChildEnd, Host};
@@ -36,25 +36,9 @@ where
         last: row.find("last").is_some(),
     };
     let launch = launch_of(rt.alloc(), row, place)?;
-    stage_and_run(rt, host, &launch, &wanted, out);
+    run(rt, host, &launch, &wanted, out);
     mem::drop(launch);
     Ok(())
-}
-
-fn stage_and_run<H: Host>(
-    rt: &HostRuntime,
-    host: &mut H,
-    launch: &Launch,
-    wanted: &Wanted,
-    out: &mut AnswerText,
-) {
-    let plan = empty_plan(rt.alloc());
-    let staged = host.stage(&plan, 1);
-    mem::drop(plan);
-    match staged {
-        Ok(()) => run(rt, host, launch, wanted, out),
-        Err(error) => put_fault(out, error),
-    }
 }
 
 fn run<H: Host>(
@@ -64,6 +48,9 @@ fn run<H: Host>(
     wanted: &Wanted,
     out: &mut AnswerText,
 ) {
+    if let Err(error) = stage_nothing(rt.alloc(), host) {
+        return put_fault(out, error);
+    }
     let ticket = match host.start(launch) {
         Ok(ticket) => ticket,
         Err(error) => return put_fault(out, error),
@@ -73,7 +60,10 @@ fn run<H: Host>(
     match ended {
         Ok(ending) => {
             put_end(host, &launch.dir, &ending, out);
-            put_listed(host, &wanted.listed, out);
+            if let Some(folder) = &wanted.listed {
+                out.put(",\"listed\":");
+                put_folder(host, folder, out);
+            }
             if wanted.last {
                 put_last(rt, launch, out);
             }
@@ -90,27 +80,16 @@ fn put_end<H: Host>(host: &mut H, folder: &Text, ending: &ChildEnd, out: &mut An
     put_folder(host, folder, out);
 }
 
-fn put_listed<H: Host>(host: &mut H, listed: &Option<Text>, out: &mut AnswerText) {
-    if let Some(folder) = listed {
-        out.put(",\"listed\":");
-        put_folder(host, folder, out);
-    }
-}
-
 // Adds the last messages of a launch, or null.
 fn put_last(rt: &HostRuntime, launch: &Launch, out: &mut AnswerText) {
     out.put(",\"last\":");
     match messages_file(rt.alloc(), launch) {
-        Ok(Some(file)) => put_lines(rt, file.as_str(), out),
+        Ok(Some(file)) => match last_lines(rt, file.as_str()) {
+            Some(lines) => out.put_quoted(lines.as_str()),
+            None => out.put("null"),
+        },
         Ok(None) => out.put("null"),
         Err(error) => out.fail(RowFault::from(error)),
-    }
-}
-
-fn put_lines(rt: &HostRuntime, file: &str, out: &mut AnswerText) {
-    match last_lines(rt, file) {
-        Some(lines) => out.put_quoted(lines.as_str()),
-        None => out.put("null"),
     }
 }
 

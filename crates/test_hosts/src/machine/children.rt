@@ -1,6 +1,6 @@
 use crate::machine::child::{launch_with, words_in};
 use crate::machine::listing::{put_code, put_fault};
-use crate::machine::place::empty_plan;
+use crate::machine::place::stage_nothing;
 use proc_host::{ChildEnd, Host, Ticket};
 use process_machine::{Machine, World};
 use serde_json::Value as Json;
@@ -23,25 +23,9 @@ pub fn put_told<R: World>(
 where
     R::File: Into<Stdio>,
 {
-    let plan = empty_plan(rt.alloc());
-    let staged = host.stage(&plan, 1);
-    mem::drop(plan);
-    match staged {
-        Ok(()) => run_all(rt, host, row, place, out),
-        Err(error) => put_fault(out, error),
+    if let Err(error) = stage_nothing(rt.alloc(), host) {
+        return put_fault(out, error);
     }
-}
-
-fn run_all<R: World>(
-    rt: &HostRuntime,
-    host: &mut Machine<R>,
-    row: &Row,
-    place: &str,
-    out: &mut AnswerText,
-)
-where
-    R::File: Into<Stdio>,
-{
     let mut held = Vec::new(rt.alloc());
     match start_all(rt.alloc(), host, row, place, &mut held) {
         Ok(()) => {

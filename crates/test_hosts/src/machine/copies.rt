@@ -1,3 +1,4 @@
+use crate::machine::archives::{text_at, text_of};
 use crate::machine::child::put_folder;
 use crate::machine::listing::put_fault;
 use crate::machine::place::{below, scripted};
@@ -102,20 +103,15 @@ fn look_at_all<H: Host>(
 ) -> Result<(), RowFault> {
     if row.find("measured").is_some() {
         for name in row.list("measured")? {
-            measure(host, &path_of(alloc, name, place)?)?;
+            measure(host, &below(alloc, place, text_of(name)?)?)?;
         }
     }
     if row.find("scanned").is_some() {
         for name in row.list("scanned")? {
-            scan(host, &path_of(alloc, name, place)?)?;
+            scan(host, &below(alloc, place, text_of(name)?)?)?;
         }
     }
     Ok(())
-}
-
-fn path_of(alloc: Global, name: &Json, place: &str) -> Result<Text, RowFault> {
-    let name = name.as_str().ok_or(RowFault::BadArgument)?;
-    Ok(below(alloc, place, name)?)
 }
 
 fn measure<H: Host>(host: &mut H, path: &Text) -> Result<(), RowFault> {
@@ -161,15 +157,10 @@ fn plan_of(alloc: Global, row: &Row, place: &str) -> Result<StagePlan, RowFault>
 }
 
 fn move_of(alloc: Global, pair: &Json, place: &str) -> Result<Move, RowFault> {
-    let source = name_at(pair, 0)?;
-    let target = name_at(pair, 1)?;
+    let source = text_at(pair, 0)?;
+    let target = text_at(pair, 1)?;
     Ok(Move {
         source: below(alloc, place, source)?,
         target: below(alloc, place, target)?,
     })
-}
-
-fn name_at(pair: &Json, index: usize) -> Result<&str, RowFault> {
-    let name = pair.get(index).and_then(|name| name.as_str());
-    name.ok_or(RowFault::BadArgument)
 }

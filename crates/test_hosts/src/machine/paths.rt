@@ -93,7 +93,8 @@ fn put_called<H: Host>(
     Ok(())
 }
 
-fn put_measured<H: Host>(host: &mut H, path: &Text, out: &mut AnswerText) {
+/// Writes what is at a path.
+pub fn put_measured<H: Host>(host: &mut H, path: &Text, out: &mut AnswerText) {
     match host.measure(path) {
         Ok(measure) => put_measure(out, &measure),
         Err(error) => put_fault(out, error),

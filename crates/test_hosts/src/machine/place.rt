@@ -1,9 +1,10 @@
 use plain_data::{Items, Keyed, Text};
+use proc_host::{Host, HostError};
 use process_machine::Machine;
 use staging::StagePlan;
 use std::alloc::{AllocError, Global};
 use std::process::{Command, Stdio};
-use std::{env, fs, io, mem};
+use std::{env, fs, mem};
 use test_rows::{Row, RowFault};
 
 /// The folder that a row works in, from the root.
@@ -65,8 +66,8 @@ fn succeeds(
     Ok(done(shell.status(rt))?.success())
 }
 
-/// A row whose own files can't be made has no answer.
-pub fn done<T>(outcome: io::Result<T>) -> Result<T, RowFault> {
+/// What was made or read for a row, which has no answer where that failed.
+pub fn done<T, E: Drop>(outcome: Result<T, E>) -> Result<T, RowFault> {
     match outcome {
         Ok(value) => Ok(value),
         Err(_) => Err(RowFault::BadArgument),
@@ -102,6 +103,14 @@ fn machine_with<'a>(
     let work = Text::from_text(rt.alloc(), place)?;
     let outdir = below(rt.alloc(), place, "results")?;
     Ok(Machine::new(rt, work, archive, outdir))
+}
+
+/// Stages the first job, into which nothing is copied.
+pub(crate) fn stage_nothing<H: Host>(alloc: Global, host: &mut H) -> Result<(), HostError> {
+    let plan = empty_plan(alloc);
+    let staged = host.stage(&plan, 1);
+    mem::drop(plan);
+    staged
 }
 
 /// A plan that copies nothing.
